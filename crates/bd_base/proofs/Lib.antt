@@ -1,0 +1,4 @@
+pub mod FactLemmas
+pub mod PairLemmas
+pub mod PutLemmas
+pub mod ShelfLemmas

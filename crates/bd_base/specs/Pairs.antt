@@ -1,0 +1,21 @@
+-- Lists of pairs of positions, as orders: (i, j) says that i is before j.
+use Rattle.std.specs.List.{list_any}
+use Rattle.std.specs.Prelude.{ℕ, zero, suc, ◌+◌, Bool, ◌&&◌, ◌==◌, List, [], ◌∷◌, ◌++◌}
+
+-- whether i is before j
+abbrev pub is_before : List (ℕ × ℕ) → ℕ → ℕ → Bool
+is_before order i j = list_any (λ p. p.0 == i && p.1 == j) order
+
+-- i is before each of the k positions from j on
+abbrev pub before_each : ℕ → ℕ → ℕ → List (ℕ × ℕ)
+before_each i j zero = []
+before_each i j (suc k) = (i, j) ∷ before_each i (j + 1) k
+
+-- each of the k positions from i on is before those behind it
+abbrev pub in_turn : ℕ → ℕ → List (ℕ × ℕ)
+in_turn i zero = []
+in_turn i (suc k) = before_each i (i + 1) k ++ in_turn (i + 1) k
+
+-- the order of n positions in which each is before all later ones
+abbrev pub total_order : ℕ → List (ℕ × ℕ)
+total_order n = in_turn 0 n

@@ -1,0 +1,14 @@
+pub mod Equations
+pub mod Faultless
+pub mod InRange
+pub mod Members
+pub mod OneLevel
+pub mod Runs
+pub mod SetLemmas
+pub mod Steps
+pub mod Stops
+pub mod There
+pub mod TotalOrder
+pub mod Passes
+pub mod ChainLaw
+pub mod Walk

@@ -1,0 +1,26 @@
+use Rattle.std.proofs.Common.{◌≡◌, ◌↔◌, true, length, Option, None, Result, Ok, Err, IfOk, sym, ◌∙◌, subst, rules}
+use Rattle.bd_task.specs.TaskView.{TaskView}
+use Rattle.bd_tree.specs.declared.node.Node.{Node}
+use Rattle.bd_links.specs.declared.parts.Fault.{Fault}
+use Rattle.bd_links.specs.Sound.{first_fault, are_below, IsSound, RunsAlways}
+use Rattle.bd_links.proofs.Faultless.{none_where_sound}
+use Rattle.bd_links.proofs.There.{runs_always}
+use Rattle.bd_links.proofs.judging.check.Goals as goal
+
+tells_sound : {E : Type 0} (task : TaskView) (root : Node) (r : Result (Option Fault) E) → IfOk r (λ f. f ≡ first_fault task root) → IfOk r (λ f. f ≡ None ↔ IsSound task root)
+tells_sound task root (Ok f) e = subst (λ z. z ≡ None ↔ IsSound task root) (sym e) (none_where_sound task root)
+tells_sound task root (Err x) e = tt
+
+tells_runs : {E : Type 0} (task : TaskView) (root : Node) (r : Result (Option Fault) E) → are_below (length task.actions) root ≡ true → IfOk r (λ f. f ≡ first_fault task root) → IfOk r (λ f. f ≡ None → RunsAlways task root)
+tells_runs task root (Ok f) below e = λ none. runs_always task root below ((none_where_sound task root).0 (sym e ∙ none))
+tells_runs task root (Err x) below e = tt
+
+pub returns-clause-sound : goal.returns-clause-sound
+returns-clause-sound c =
+    let root : c.root.result.now ≡ c.args.tree.now = search rules in
+    tells_sound c.args.task.now c.args.tree.now _ (subst (λ z. IfOk c.fault_of_tree.result (λ f. f ≡ first_fault c.args.task.now z)) root c.fault_of_tree.ensures)
+
+pub returns-clause-runs : goal.returns-clause-runs
+returns-clause-runs c =
+    let root : c.root.result.now ≡ c.args.tree.now = search rules in
+    tells_runs c.args.task.now c.args.tree.now _ c.requires (subst (λ z. IfOk c.fault_of_tree.result (λ f. f ≡ first_fault c.args.task.now z)) root c.fault_of_tree.ensures)

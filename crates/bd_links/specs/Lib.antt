@@ -1,0 +1,5 @@
+pub mod Effects
+pub mod Faults
+pub mod InTurn
+pub mod Judged
+pub mod Sound

@@ -1,0 +1,97 @@
+ghost use Rattle.std.specs.Prelude.{◌≡◌, ◌↔◌, length, find, not, Option, None, IfOk, IsTrue};
+ghost use Rattle.bd_base.specs.Facts.{has};
+ghost use Rattle.bd_links.specs.Faults.{holds_after, root_fault};
+ghost use Rattle.bd_links.specs.Judged.{Judges};
+ghost use Rattle.bd_links.specs.Sound.{summary_of, child_of, are_below, first_fault, IsSound, RunsAlways};
+
+use crate::blocks::judge_block;
+use crate::parts::{Child, Effects, Fault, Stop};
+use crate::sets::action_effects;
+use bd_base::{FactId, FactSet, NoMemory};
+use bd_task::Task;
+use bd_tree::{Node, Tree};
+use std::alloc::Global;
+
+// A node's id and effects, or the first fault inside it.
+fn judge(alloc: Global, task: &Task, node: &Node) -> Result<Child, Stop>
+    requires { IsTrue (are_below (length task.now.actions) node.now) }
+    ensures { Judges (summary_of task.now.actions node.now).fault (child_of task.now.actions node.now) result }
+{
+    match node {
+        Node::Step { id, action } => Ok(Child {
+            id: *id,
+            effects: action_effects(alloc, task.action(*action))?,
+        }),
+        Node::Block { id, kids, order } => {
+            let mut children = Vec::new(alloc);
+            for kid in kids.as_slice() {
+                children.push(judge(alloc, task, kid)?)?;
+            }
+            Ok(Child {
+                id: *id,
+                effects: judge_block(alloc, *id, order, &children)?,
+            })
+        }
+    }
+}
+
+// The least fact of the set that the other lacks.
+fn first_lacking(facts: &FactSet, s: &FactSet) -> Option<FactId>
+    ensures { result ≡ find (λ p. not (has s.now p)) facts.now }
+{
+    for p in facts.iter() {
+        if !s.has(p) {
+            return Some(p);
+        }
+    }
+    None
+}
+
+// The least goal fact that isn't true at the end.
+fn first_missed(init: &FactSet, goal: &FactSet, e: &Effects) -> Option<FactId>
+    ensures { result ≡ find (λ g. not (holds_after init.now e.now g)) goal.now }
+{
+    for g in goal.iter() {
+        if !(e.add.has(g) || (init.has(g) && !e.del.has(g))) {
+            return Some(g);
+        }
+    }
+    None
+}
+
+// The fault of a root with these effects.
+fn fault_of_root(init: &FactSet, goal: &FactSet, e: &Effects) -> Option<Fault>
+    ensures { result ≡ root_fault init.now goal.now e.now }
+{
+    if let Some(fact) = first_lacking(&e.need, init) {
+        return Some(Fault::Need { fact });
+    }
+    match first_missed(init, goal, e) {
+        Some(fact) => Some(Fault::Goal { fact }),
+        None => None,
+    }
+}
+
+fn fault_of_tree(alloc: Global, task: &Task, root: &Node) -> Result<Option<Fault>, NoMemory>
+    requires { IsTrue (are_below (length task.now.actions) root.now) }
+    ensures { IfOk result (λ f. f ≡ first_fault task.now root.now) }
+{
+    match judge(alloc, task, root) {
+        Ok(child) => Ok(fault_of_root(task.init(), task.goal(), &child.effects)),
+        Err(Stop::Found(fault)) => Ok(Some(fault)),
+        Err(Stop::NoMemory) => Err(NoMemory),
+    }
+}
+
+/// The link check: `None` exactly where the tree is sound, else the first fault. Kids are walked before
+/// their block and siblings in their listing; at a block the kid of the least position and then the least
+/// fact is told; then the least need of the root, and then the least goal fact. Each linearisation of a
+/// sound tree is valid.
+pub fn check(alloc: Global, task: &Task, tree: &Tree) -> Result<Option<Fault>, NoMemory>
+    requires { IsTrue (are_below (length task.now.actions) tree.now) }
+    ensures first { IfOk result (λ f. f ≡ first_fault task.now tree.now) }
+    ensures sound { IfOk result (λ f. (f ≡ None) ↔ IsSound task.now tree.now) }
+    ensures runs { IfOk result (λ f. f ≡ None → RunsAlways task.now tree.now) }
+{
+    fault_of_tree(alloc, task, tree.root())
+}

@@ -1,0 +1,22 @@
+ghost use Rattle.std.specs.Prelude.{◌<◌, List, ℕ, length, IsTrue, ◌↔◌};
+ghost use Rattle.std.specs.List.{AllByRecursion};
+ghost use Rattle.bd_task.specs.TaskView.{TaskView};
+ghost use Rattle.bd_task.specs.Valid.{IsValid};
+ghost use Rattle.bd_tree.specs.Chain.{chain_of};
+ghost use Rattle.bd_tree.specs.declared.node.Node.{Node};
+ghost use Rattle.bd_links.specs.Sound.{IsSound, AreThere, RunsAlways, are_below};
+
+/// Each linearisation of a sound tree is valid.
+pub fn linearisations_run()
+    ensures { (task : TaskView) (root : Node) → IsTrue (are_below (length task.actions) root) → IsSound task root → RunsAlways task root }
+{}
+
+/// The chain of a list is sound exactly where the list is valid.
+pub fn chains_run()
+    ensures { (task : TaskView) (list : List ℕ) → AreThere task list → IsSound task (chain_of list) ↔ IsValid task list }
+{}
+
+/// The chain of a list has the list's actions.
+pub fn chains_fit()
+    ensures { (n : ℕ) (list : List ℕ) → AllByRecursion (λ a. a < n) list → IsTrue (are_below n (chain_of list)) }
+{}

@@ -1,0 +1,22 @@
+//! The whole program as one call: from words, named texts and two sinks to a status and the bytes written.
+//!
+//! It may know every crate below it. It promises what `run_alone` carries: which words and texts lead to
+//! which status, which bytes are put, and that the plan of every run is valid in each of its linearisations.
+#![tactic(auto)]
+
+mod alone;
+mod notes;
+mod prepare;
+mod record;
+mod status;
+mod summary;
+mod usage;
+
+pub use alone::run_alone;
+pub use record::{End, RunRecord};
+pub use status::{Ended, File, Status};
+pub use summary::summary_text;
+pub use usage::USAGE;
+
+#[cfg(test)]
+mod tests;

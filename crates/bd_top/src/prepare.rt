@@ -1,0 +1,143 @@
+ghost use Rattle.std.specs.Prelude.{◌≡◌, ℕ, ◌<◌, ◌≤◌, ◌^◌, List, Err, IfOk, IfErr, All, length, MatchResult, map, string_bytes};
+ghost use Rattle.bd_base.specs.Shelf.{Told};
+ghost use Rattle.bd_task.specs.Valid.{IsValid};
+ghost use Rattle.bd_top.specs.Prepared.{Prepares, PreparesNamed, PreparesText, PreparesScript, HasFact, IsFirstBreak};
+ghost use Rattle.script_text.specs.Limits.{Spelled, Answers};
+ghost use Rattle.script_text.specs.Lines.{worded};
+ghost use Rattle.script_text.specs.Reading.{script_at};
+ghost use Rattle.bd_top.specs.declared.prepare.Prepared.TheVariants.{Refused as Refusal, NoMemory as OutOfMemory};
+
+use crate::notes::{broken_note, over_note, refused_note, unread_note};
+use crate::status::{File, Status};
+use crate::usage::{script_name, usage_note};
+use bd_base::{Limit, NoMemory, Shelf, ShelfErr, Text, TextErr};
+use script_text::{Script, read_script};
+use seq_check::{Broken, validate};
+use std::alloc::Global;
+
+/// The greatest length of a text, in bytes.
+const TEXT_LIMIT: usize = 16_777_216;
+
+/// What the words and the texts that they name lead to.
+#[derive(Debug, Drop)]
+pub enum Prepared {
+    /// A script whose plan is valid.
+    Ready(Script),
+    /// A refusal, and the line that names it.
+    Refused { status: Status, line: Text },
+    /// Memory was wanting.
+    NoMemory,
+}
+
+// A refusal with its line, which may have wanted memory.
+fn refused(status: Status, line: Result<Text, NoMemory>) -> Prepared
+    ensures { MatchResult line (λ l. result ≡ Refusal status l) (λ _. result ≡ OutOfMemory) }
+{
+    match line {
+        Ok(line) => Prepared::Refused { status, line },
+        Err(_) => Prepared::NoMemory,
+    }
+}
+
+// The cost of a script's plan, or its first break.
+fn judged(alloc: Global, script: &Script) -> Result<u64, Broken>
+    requires in_range { All (λ a. a < length script.now.task.actions) script.now.plan }
+    requires few { length script.now.plan ≤ 2_000 }
+    ensures valid { IfOk result (λ _. IsValid script.now.task script.now.plan) }
+    ensures broken { IfErr result (λ b. IsFirstBreak script.now b) }
+    ensures fact { IfErr result (λ b. HasFact (length script.now.task.facts) b) }
+{
+    validate(alloc, &script.task, script.plan.as_slice())
+}
+
+// The refusal of a script whose plan breaks.
+fn broken_plan(alloc: Global, script: &Script, broken: Broken) -> Prepared
+    requires broken { IsFirstBreak script.now broken }
+    requires fact { HasFact (length script.now.task.facts) broken }
+    ensures { PreparesScript script.now result }
+{
+    let line = broken_note(alloc, &script.task, &broken);
+    refused(Status::PlanInvalid(broken), line)
+}
+
+fn prepare_script(alloc: Global, script: Script) -> Prepared
+    requires in_range { All (λ a. a < length script.task.actions) script.plan }
+    requires few { length script.plan ≤ 2_000 }
+    requires stops { (0 < script.stop) × (script.stop ≤ 1_000_000) }
+    ensures { PreparesScript script result }
+{
+    match judged(alloc, &script) {
+        Ok(_) => Prepared::Ready(script),
+        Err(broken) => broken_plan(alloc, &script, broken),
+    }
+}
+
+// The refusal of a text that spells no script within the limits.
+fn unspelled(alloc: Global, error: TextErr) -> Prepared
+    ensures { (t : List ℕ) → Spelled t (Err error) → Answers (Err error) (script_at (worded t)) → PreparesText t result }
+{
+    match error {
+        TextErr::At { place, cause } => {
+            let file = File::Script;
+            let line = refused_note(alloc, file, place, &cause);
+            refused(Status::TextRefused { file, place, cause }, line)
+        }
+        TextErr::Over { limit, count } => {
+            let line = over_note(alloc, limit, count);
+            refused(Status::OverLimit { limit, count }, line)
+        }
+        TextErr::NoMemory => Prepared::NoMemory,
+    }
+}
+
+fn prepare_text(alloc: Global, text: &[u8]) -> Prepared
+    requires { length text.now ≤ 16_777_216 }
+    ensures { PreparesText text.now result }
+{
+    match read_script(alloc, text) {
+        Ok(script) => prepare_script(alloc, script),
+        Err(error) => unspelled(alloc, error),
+    }
+}
+
+// The refusal of a text that couldn't be read.
+fn unread(alloc: Global, name: &str, missing: bool) -> Prepared
+    ensures { (told : Told) → PreparesNamed name.now told result }
+{
+    let line = unread_note(alloc, name.as_bytes(), missing);
+    match Text::from_slice(alloc, name.as_bytes()) {
+        Ok(name) => refused(Status::ReadFault { name, missing }, line),
+        Err(_) => Prepared::NoMemory,
+    }
+}
+
+fn prepare_named<H: Shelf>(alloc: Global, name: &str, shelf: &mut H) -> Prepared
+    ensures prepared { PreparesNamed name.now (H.tells shelf.old name.now) result }
+    ensures told { (n : List ℕ) → H.tells shelf.new n ≡ H.tells shelf.old n }
+{
+    match shelf.read(alloc, name, TEXT_LIMIT) {
+        Ok(text) => prepare_text(alloc, &text),
+        Err(ShelfErr::Missing) => unread(alloc, name, true),
+        Err(ShelfErr::Failed) => unread(alloc, name, false),
+        Err(ShelfErr::TooBig) => {
+            let count = TEXT_LIMIT as u64 + 1;
+            let limit = Limit::Text;
+            refused(
+                Status::OverLimit { limit, count },
+                over_note(alloc, limit, count),
+            )
+        }
+        Err(ShelfErr::NoMemory) => Prepared::NoMemory,
+    }
+}
+
+/// Reads and judges what the words name. The shelf still tells what it told.
+pub fn prepare_words<H: Shelf>(alloc: Global, words: &[String], shelf: &mut H) -> Prepared
+    ensures prepared { Prepares (map string_bytes words.now) (H.tells shelf.old) result }
+    ensures told { (n : List ℕ) → H.tells shelf.new n ≡ H.tells shelf.old n }
+{
+    match script_name(words) {
+        None => refused(Status::Usage, usage_note(alloc)),
+        Some(name) => prepare_named(alloc, name, shelf),
+    }
+}

@@ -1,0 +1,32 @@
+ghost use Rattle.std.specs.Prelude.{◌≡◌, None, Some, MatchOption, IfOk, map, string_bytes};
+ghost use Rattle.bd_top.specs.Words.{script_named};
+
+use bd_base::{NoMemory, Text};
+use std::alloc::Global;
+
+/// What is put to `notes` where the words are no command.
+pub const USAGE: &[u8] =
+    b"usage: bdpo improve DOMAIN PROBLEM PLAN [--workers N] [--nodes N] [--width N] [--span N] [--stop N]\n       bdpo check DOMAIN PROBLEM PLAN\n       bdpo deorder DOMAIN PROBLEM PLAN [--span N]\n       bdpo replay SCRIPT\n       bdpo bench N\n";
+
+/// The script that the words name: they are `replay` and one more, whatever that begins with.
+pub fn script_name(words: &[String]) -> Option<&str>
+    ensures { MatchOption result (script_named (map string_bytes words.now) ≡ None) (λ name. script_named (map string_bytes words.now) ≡ Some name.now) }
+{
+    match words {
+        [command, name] => {
+            if command.as_str() == "replay" {
+                Some(name.as_str())
+            } else {
+                None
+            }
+        }
+        _ => None,
+    }
+}
+
+/// The note for words that are no command.
+pub fn usage_note(alloc: Global) -> Result<Text, NoMemory>
+    ensures { IfOk result (λ text. text ≡ USAGE.now) }
+{
+    Ok(Text::from_slice(alloc, USAGE)?)
+}

@@ -1,0 +1,186 @@
+use bd_base::{ActionId, FromItems, Items, NoMemory, NodeId, PairList};
+use std::alloc::Global;
+
+/// A list of nodes, as the kids of a block.
+pub type NodeList = Items<Node>;
+
+/// A step of one action, or a block of kids and an order on their positions.
+///
+/// The kids stand in their listing, and the pair `(i, j)` of the order says that the kid at position i comes
+/// before the kid at position j. A node by itself may have any ids and any order; a `Tree` is well formed.
+#[derive(Debug, Drop)]
+pub enum Node {
+    Step {
+        id: NodeId,
+        action: ActionId,
+    },
+    Block {
+        id: NodeId,
+        kids: Items<Node>,
+        order: PairList,
+    },
+}
+
+impl Node {
+    ghost use Rattle.std.specs.Prelude.{◌≡◌, ◌+◌, ◌++◌, ◌<◌, ◌^◌, true, IfOk, OnOk};
+    ghost use Rattle.std.specs.Option.{option_copied};
+    ghost use Rattle.bd_tree.specs.Tree.{id_of, ids_of, greatest, depth_of, steps_of, nodes_of, pairs_of, listed_of, find_in};
+    ghost use Rattle.bd_tree.specs.WellFormed.{has_orders};
+
+    /// The node's own id.
+    pub fn id(&self) -> NodeId
+        ensures { result ≡ id_of self.now }
+    {
+        match self {
+            Node::Step { id, .. } => *id,
+            Node::Block { id, .. } => *id,
+        }
+    }
+
+    /// How many levels it has: 1 for a step, and 1 more than the deepest kid for a block.
+    pub fn depth(&self) -> u32
+        requires { depth_of self.now < 2 ^ 32 }
+        ensures { result ≡ depth_of self.now }
+    {
+        match self {
+            Node::Step { .. } => 1,
+            Node::Block { kids, .. } => {
+                let mut most = 0;
+                for kid in kids.as_slice() {
+                    most = kid.depth().max(most);
+                }
+                most + 1
+            }
+        }
+    }
+
+    /// How many steps it has; a step is one itself.
+    pub fn steps(&self) -> u32
+        requires { steps_of self.now < 2 ^ 32 }
+        ensures { result ≡ steps_of self.now }
+    {
+        match self {
+            Node::Step { .. } => 1,
+            Node::Block { kids, .. } => {
+                let mut sum = 0;
+                for kid in kids.as_slice() {
+                    sum += kid.steps();
+                }
+                sum
+            }
+        }
+    }
+
+    /// How many pairs of its steps are ordered, by its own order and by those of the blocks in it.
+    pub fn pairs(&self) -> u64
+        requires small { nodes_of self.now < 2 ^ 32 }
+        requires ordered { has_orders self.now ≡ true }
+        ensures { result ≡ pairs_of self.now }
+    {
+        match self {
+            Node::Step { .. } => 0,
+            Node::Block { kids, order, .. } => {
+                let mut sum = ordered_pairs(kids.as_slice(), order);
+                for kid in kids.as_slice() {
+                    sum += kid.pairs();
+                }
+                sum
+            }
+        }
+    }
+
+    /// The greatest id of it and of the nodes in it.
+    pub fn top_id(&self) -> NodeId
+        ensures { result ≡ greatest (ids_of self.now) }
+    {
+        match self {
+            Node::Step { id, .. } => *id,
+            Node::Block { id, kids, .. } => {
+                let mut most = id.0;
+                for kid in kids.as_slice() {
+                    most = kid.top_id().0.max(most);
+                }
+                NodeId(most)
+            }
+        }
+    }
+
+    // Puts the listed linearisation at the end of the list. After an error the list may have got a part of it.
+    pub(crate) fn list_into(&self, list: &mut Vec<ActionId>) -> Result<(), NoMemory>
+        ensures { OnOk result (list.new.items ≡ list.old.items ++ listed_of self.now) }
+    {
+        match self {
+            Node::Step { action, .. } => {
+                list.push(*action)?;
+            }
+            Node::Block { kids, .. } => {
+                for kid in kids.as_slice() {
+                    kid.list_into(list)?;
+                }
+            }
+        }
+        Ok(())
+    }
+
+    /// The same node.
+    pub fn try_copy(&self, alloc: Global) -> Result<Node, NoMemory>
+        ensures { IfOk result (λ n. n ≡ self.now) }
+    {
+        match self {
+            Node::Step { id, action } => Ok(Node::Step {
+                id: *id,
+                action: *action,
+            }),
+            Node::Block { id, kids, order } => {
+                let mut copies = Vec::new(alloc);
+                for kid in kids.as_slice() {
+                    copies.push(kid.try_copy(alloc)?)?;
+                }
+                Ok(Node::Block {
+                    id: *id,
+                    kids: Items::of(copies),
+                    order: order.try_copy(alloc)?,
+                })
+            }
+        }
+    }
+
+    /// The first node with the id, where a node comes before its kids and kids come as they are listed.
+    pub fn find(&self, id: NodeId) -> Option<&Node>
+        ensures { option_copied result ≡ find_in id self.now }
+    {
+        match self {
+            Node::Step { id: own, .. } => { if *own == id { Some(self) } else { None } }
+            Node::Block { id: own, kids, .. } => {
+                if *own == id {
+                    return Some(self);
+                }
+                for kid in kids.as_slice() {
+                    if let Some(found) = kid.find(id) {
+                        return Some(found);
+                    }
+                }
+                None
+            }
+        }
+    }
+}
+
+ghost use Rattle.std.specs.Prelude.{◌≡◌, ◌<◌, ◌^◌, true, length, map};
+ghost use Rattle.std.specs.List.{list_all};
+ghost use Rattle.bd_tree.specs.Order.{is_within};
+ghost use Rattle.bd_tree.specs.Tree.{steps_of, total, products};
+
+// How many pairs of steps the order of the kids orders.
+fn ordered_pairs(kids: &[Node], order: &PairList) -> u64
+    requires few { total (map steps_of kids.now) < 2 ^ 32 }
+    requires within { list_all (is_within (length kids.now)) order.now ≡ true }
+    requires small { products order.now (map steps_of kids.now) < 2 ^ 64 }
+    ensures { result ≡ products order.now (map steps_of kids.now) }
+{
+    let mut sum = 0;
+    for pair in order.iter() {
+        sum += kids[pair.0 as usize].steps() as u64 * kids[pair.1 as usize].steps() as u64;
+    }
+    sum
+}

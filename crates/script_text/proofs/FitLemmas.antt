@@ -1,0 +1,139 @@
+-- A script within the limits meets the conditions of a task, and its plan is in range.
+use Rattle.std.proofs.Common.{◌≡◌, ℕ, ◌<◌, ◌≤◌, Bool, true, false, cond, not, eqb, nat_lt, List, [], ◌∷◌, Some, None, map, length, refl, sym, ap, subst, ◌∙◌, arith}
+use Rattle.std.specs.List.{list_all}
+use Rattle.std.specs.Str.{bytes_eq}
+use Rattle.std.proofs.lemmas.Bool.{or_left, or_right, both_ways}
+use Rattle.std.proofs.lemmas.List.Quantifiers.{position-Some}
+use Rattle.bd_base.specs.Facts.{has, insert_fact, remove_fact, plus, minus}
+use Rattle.bd_base.specs.declared.text_err.Limit.{Limit}
+use Rattle.bd_base.proofs.FactLemmas.{has-minus}
+use Rattle.bd_task.specs.declared.ground.Action.{Action}
+use Rattle.bd_task.specs.TaskView.{AreBelow, IsTask, AreActions}
+use Rattle.bd_task.specs.TaskView.{IsAction as MeetsTask}
+use Rattle.script_text.specs.declared.script.Script.{Script}
+use Rattle.script_text.specs.Limits.{over_of}
+use Rattle.script_text.specs.Spells.{Listed, AreNew, ArePlaces, IsSetOf, IsAction, AreActionsOf, names_of, SpellsScript}
+use Rattle.script_text.proofs.LineLemmas.{lt_false}
+
+-- numbers below a bound
+
+below-insert : (n f : ℕ) (s : List ℕ) → f < n → AreBelow n s → AreBelow n (insert_fact f s)
+below-insert n f [] lt b = (lt, tt)
+below-insert n f (x ∷ s) lt b = by_test (nat_lt f x) (nat_lt x f) (below-insert n f s lt b.1)
+  where
+    by_test : (t u : Bool) → AreBelow n (insert_fact f s) → AreBelow n (cond t (f ∷ x ∷ s) (x ∷ cond u (insert_fact f s) s))
+    by_test true u h = (lt, b)
+    by_test false true h = (b.0, h)
+    by_test false false h = b
+
+below-remove : (n f : ℕ) (s : List ℕ) → AreBelow n s → AreBelow n (remove_fact f s)
+below-remove n f [] b = tt
+below-remove n f (x ∷ s) b = by_test (not (eqb x f)) (below-remove n f s b.1)
+  where
+    by_test : (t : Bool) → AreBelow n (remove_fact f s) → AreBelow n (cond t (x ∷ remove_fact f s) (remove_fact f s))
+    by_test true h = (b.0, h)
+    by_test false h = h
+
+below-plus : (n : ℕ) (s fs : List ℕ) → AreBelow n s → AreBelow n fs → AreBelow n (plus s fs)
+below-plus n s [] b c = b
+below-plus n s (f ∷ fs) b c = below-plus n (insert_fact f s) fs (below-insert n f s c.0 b) c.1
+
+below-minus : (n : ℕ) (s fs : List ℕ) → AreBelow n s → AreBelow n (minus s fs)
+below-minus n s [] b = b
+below-minus n s (f ∷ fs) b = below-minus n (remove_fact f s) fs (below-remove n f s b)
+
+pub places_below : (declared names : List (List ℕ)) (places : List ℕ) → ArePlaces declared names places → AreBelow (length declared) places
+places_below declared [] [] h = tt
+places_below declared [] (i ∷ places) h = absurd h
+places_below declared (n ∷ names) [] h = absurd h
+places_below declared (n ∷ names) (i ∷ places) h = ((position-Some (λ m. bytes_eq n m) declared i n h.1).0, places_below declared names places h.2)
+
+set_below : (facts names : List (List ℕ)) (set : List ℕ) → IsSetOf facts names set → AreBelow (length facts) set
+set_below facts names set s =
+    let P : List ℕ → Type 0 = AreBelow (length facts) in
+    subst P (sym s.whole) (below-plus (length facts) [] s.places tt (places_below facts names s.places s.are))
+
+-- what is added is not deleted
+
+apart_from : (del add xs : List ℕ) → ((q : ℕ) → has xs q ≡ true → has add q ≡ true) → list_all (λ x. not (has (minus del add) x)) xs ≡ true
+apart_from del add [] h = refl
+apart_from del add (x ∷ xs) h =
+    let inside : has add x ≡ true = h x (or_left (eqb x x) (has xs x) (Rattle.std.proofs.lemmas.Bool.eq-eqb x x refl)) in
+    let out : has (minus del add) x ≡ false = has-minus del add x ∙ rw inside refl in
+    rw out (apart_from del add xs (λ q e. h q (or_right (eqb x q) (has xs q) e)))
+
+-- the actions
+
+action_fits : (facts : List (List ℕ)) (l : Listed) (a : Action) → IsAction facts l a → MeetsTask (length facts) a
+action_fits facts l a h =
+    let P : Action → Type 0 = MeetsTask (length facts) in
+    subst P (sym h.whole) (record {
+      cheap = h.cheap;
+      pre = set_below facts l.pre h.pre h.needs;
+      add = set_below facts l.add h.add h.adds;
+      del = below-minus (length facts) h.del h.add (set_below facts l.del h.del h.deletes);
+      apart = apart_from h.del h.add h.add (λ q e. e);
+    })
+
+actions_fit : (facts : List (List ℕ)) (listed : List Listed) (actions : List Action) → AreActionsOf facts listed actions → AreActions (length facts) actions
+actions_fit facts [] [] h = tt
+actions_fit facts [] (a ∷ actions) h = absurd h
+actions_fit facts (l ∷ listed) [] h = absurd h
+actions_fit facts (l ∷ listed) (a ∷ actions) h = (action_fits facts l a h.0, actions_fit facts listed actions h.1)
+
+cons2 : (a b : List ℕ) (xs ys : List (List ℕ)) → a ≡ b → xs ≡ ys → a ∷ xs ≡ b ∷ ys
+cons2 a b xs ys e f = cc
+
+pub names_are : (facts : List (List ℕ)) (listed : List Listed) (actions : List Action) → AreActionsOf facts listed actions → map (λ (a : Action). a.name) actions ≡ names_of listed
+names_are facts [] [] h = refl
+names_are facts [] (a ∷ actions) h = absurd h
+names_are facts (l ∷ listed) [] h = absurd h
+names_are facts (l ∷ listed) (a ∷ actions) h = cons2 _ _ _ _ (ap (λ (x : Action). x.name) h.0.whole) (names_are facts listed actions h.1)
+
+length-names : (facts : List (List ℕ)) (listed : List Listed) (actions : List Action) → AreActionsOf facts listed actions → length (names_of listed) ≡ length actions
+length-names facts [] [] h = refl
+length-names facts [] (a ∷ actions) h = absurd h
+length-names facts (l ∷ listed) [] h = absurd h
+length-names facts (l ∷ listed) (a ∷ actions) h = omega (arith, length-names facts listed actions h.1)
+
+-- the limits
+
+none_passed : (A : Type 0) (x y z w : A) (s t u v : Bool) → cond s (Some x) (cond t (Some y) (cond u (Some z) (cond v (Some w) None))) ≡ None → (s ≡ false) × (t ≡ false) × (u ≡ false)
+none_passed A x y z w true t u v e = cc
+none_passed A x y z w false true u v e = cc
+none_passed A x y z w false false true v e = cc
+none_passed A x y z w false false false v e = (refl, refl, refl)
+
+pub record Within (s : Script) : Type 0 where
+  pub facts : length s.task.facts ≤ 262_144
+  pub actions : length s.task.actions ≤ 1_000_000
+  pub steps : length s.plan ≤ 2_000
+
+pub within : (s : Script) → over_of s ≡ None → Within s
+within s e =
+    let n = none_passed (Limit × ℕ) _ _ _ _ (nat_lt 262_144 (length s.task.facts)) (nat_lt 1_000_000 (length s.task.actions)) (nat_lt 2_000 (length s.plan)) (nat_lt 1_000_000 (length s.offers)) e in
+    record { facts = lt_false _ _ n.0; actions = lt_false _ _ n.1; steps = lt_false _ _ n.2 }
+
+pub task_fits : (text : List ℕ) (s : Script) → SpellsScript text s → over_of s ≡ None → IsTask s.task
+task_fits text s h e =
+    let w = within s e in
+    let P : List (List ℕ) → Type 0 = λ facts. AreActions (length facts) s.task.actions in
+    let Q : List (List ℕ) → Type 0 = λ facts. AreBelow (length facts) s.task.init in
+    let R : List (List ℕ) → Type 0 = λ facts. AreBelow (length facts) s.task.goal in
+    record {
+      few_facts = omega (arith, w.facts);
+      few_actions = w.actions;
+      actions = subst P (sym h.facts) (actions_fit h.source.facts h.source.actions s.task.actions h.actions);
+      init = subst Q (sym h.facts) (set_below h.source.facts h.source.init s.task.init h.init);
+      goal = subst R (sym h.facts) (set_below h.source.facts h.source.goal s.task.goal h.goal);
+    }
+
+pub plan_below : (text : List ℕ) (s : Script) → SpellsScript text s → AreBelow (length s.task.actions) s.plan
+plan_below text s h =
+    let P : ℕ → Type 0 = λ n. AreBelow n s.plan in
+    subst P (length-names h.source.facts h.source.actions s.task.actions h.actions) (places_below (names_of h.source.actions) h.source.plan s.plan h.plan)
+
+pub names_new : (text : List ℕ) (s : Script) → SpellsScript text s → AreNew [] s.task.facts × AreNew [] (map (λ (a : Action). a.name) s.task.actions)
+names_new text s h =
+    let P : List (List ℕ) → Type 0 = AreNew [] in
+    (subst P (sym h.facts) h.facts_new, subst P (sym (names_are h.source.facts h.source.actions s.task.actions h.actions)) h.actions_new)

@@ -1,0 +1,11 @@
+mod LineLemmas
+mod NameInLemmas
+mod NameLemmas
+mod NumberLemmas
+mod SectionLemmas
+mod SpellsLemmas
+mod ReadLemmas
+mod WholeLemmas
+mod KeptLemmas
+mod FitLemmas
+mod AnswerLemmas

@@ -1,0 +1,12 @@
+//! Whether a list of actions is a plan: it runs from the initial set to the goal.
+//!
+//! It may know bd_base and bd_task. `validate` answers the cost exactly where the list is valid, and else
+//! its first break.
+#![tactic(auto)]
+
+mod judging;
+
+pub use judging::{Broken, validate};
+
+#[cfg(test)]
+mod tests;
