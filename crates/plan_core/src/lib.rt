@@ -10,3 +10,6 @@ mod offer;
 
 pub use judge::{BeginErr, Core, replacements};
 pub use offer::Offer;
+
+#[cfg(test)]
+mod tests;
