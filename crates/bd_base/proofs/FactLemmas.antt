@@ -1,13 +1,9 @@
 -- Laws of sets of facts, as lists that rise.
 use Rattle.std.proofs.Common.{◌≡◌, ℕ, zero, suc, ◌<◌, ◌≤◌, Bool, true, false, cond, not, ◌&&◌, ◌||◌, eqb, List, [], ◌∷◌, length, get_or, refl, sym, ap, ◌∙◌, subst, inl, inr, arith, add-one, Result, Ok, Err, MatchResult}
-use Rattle.std.specs.List.{insert, remove, Contains, dedup}
-use Rattle.std.specs.List.Retain.{IsFiltered, DiffersFromLast}
-use Rattle.std.specs.List.Sorted.{IsBinarySearchResult, IsPermutation, IsSorted, IsStrictlyIncreasing}
+use Rattle.std.specs.List.{insert, remove, Contains}
+use Rattle.std.specs.List.Sorted.{IsBinarySearchResult, IsPermutation, IsStrictlyIncreasing}
 use Rattle.std.specs.Ordering.{nat_cmp}
 use Rattle.std.proofs.lemmas.List.Sorted.{searched, Contains-permutation, IsPermutation-sym}
-use Rattle.std.proofs.lemmas.List.Filters.{dedup_is}
-use Rattle.std.proofs.lemmas.List.Kept.{Contains-dedup_nat, Contains-from_dedup}
-use Rattle.std.proofs.lemmas.Map.Keys.{IsStrictlyIncreasing-dedup}
 use Rattle.std.proofs.lemmas.Bool.{ltb-true, ltb-false, lt-ltb, le-ltb, eq-eqb, ne_eqb, eqb-false, eqb-true, or_parts, or_cases, cases_order, cases_eq, both_ways, or_right, false_from_ne_true}
 use Rattle.bd_base.specs.Facts.{IsBelowAll, IsRising, has, insert_fact, remove_fact, minus, plus}
 
@@ -260,23 +256,18 @@ rising_from_steps (x ∷ y ∷ s) h =
 pub rising_from_increasing : (s : List ℕ) → IsStrictlyIncreasing s → IsRising s
 rising_from_increasing s h = rising_from_steps s (λ k lt. rw add-one at (h k (omega arith)))
 
--- a list that is sorted and freed of repeats is the set of its facts
-pub sorted_set : (xs ys zs : List ℕ) → IsPermutation xs ys → IsSorted nat_cmp ys → IsFiltered (DiffersFromLast eqb) [] ys zs → IsRising zs × (zs ≡ plus [] xs)
-sorted_set xs ys zs p o f =
-    let same : zs ≡ dedup eqb ys = dedup_is eqb ys zs f in
-    let up : IsRising zs = subst IsRising (sym same) (rising_from_increasing (dedup eqb ys) (IsStrictlyIncreasing-dedup ys o)) in
-    (up, rising_same zs (plus [] xs) up (rising-plus [] xs tt) (λ q. members q same ∙ sym (has-plus [] xs q ∙ or_false (has xs q))))
+-- the order of a list doesn't matter to the set of its facts
+pub permuted_set : (xs ys : List ℕ) → IsPermutation xs ys → plus [] ys ≡ plus [] xs
+permuted_set xs ys p =
+    rising_same (plus [] ys) (plus [] xs) (rising-plus [] ys tt) (rising-plus [] xs tt)
+    (λ q. has-plus [] ys q ∙ ap (λ b. b || false) (members q) ∙ sym (has-plus [] xs q))
   where
-    or_false : (a : Bool) → (a || false) ≡ a
-    or_false true = refl
-    or_false false = refl
-
     both : (a b : Bool) → (a ≡ true → b ≡ true) → (b ≡ true → a ≡ true) → a ≡ b
     both true b there back = sym (there refl)
     both false true there back = back refl
     both false false there back = refl
 
-    members : (q : ℕ) → zs ≡ dedup eqb ys → has zs q ≡ has xs q
-    members q same = both (has zs q) (has xs q)
-        (λ h. has_from_Contains xs q (Contains-permutation ys xs q (IsPermutation-sym xs ys p) (Contains-from_dedup eqb ys q (subst (λ z. Contains z q) same (Contains_from_has zs q h)))))
-        (λ h. has_from_Contains zs q (subst (λ z. Contains z q) (sym same) (Contains-dedup_nat ys q (Contains-permutation xs ys q p (Contains_from_has xs q h)))))
+    members : (q : ℕ) → has ys q ≡ has xs q
+    members q = both (has ys q) (has xs q)
+        (λ h. has_from_Contains xs q (Contains-permutation ys xs q (IsPermutation-sym xs ys p) (Contains_from_has ys q h)))
+        (λ h. has_from_Contains ys q (Contains-permutation xs ys q p (Contains_from_has xs q h)))

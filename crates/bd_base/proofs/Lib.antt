@@ -1,4 +1,13 @@
+pub mod BitLemmas
+pub mod CellLemmas
+pub mod ClosedLemmas
 pub mod FactLemmas
 pub mod PairLemmas
 pub mod PutLemmas
+pub mod RowLemmas
+pub mod RunLemmas
+pub mod SetLemmas
 pub mod ShelfLemmas
+pub mod StoredLemmas
+pub mod TurnLemmas
+pub mod WordLemmas

@@ -1,5 +1,5 @@
 -- Total orders, row by row.
-use Rattle.std.proofs.Common.{◌≡◌, ℕ, suc, ◌+◌, ◌-◌, ◌<◌, List, [], ◌∷◌, ◌++◌, sym, ap, ◌∙◌, append_assoc, arith}
+use Rattle.std.proofs.Common.{◌≡◌, ℕ, zero, suc, ◌+◌, ◌-◌, ◌<◌, ◌≤◌, List, [], ◌∷◌, ◌++◌, refl, sym, ap, ◌∙◌, append_assoc, arith}
 use Rattle.bd_base.specs.Pairs.{before_each, in_turn}
 
 one_more : (n i : ℕ) → i < n → n - i ≡ suc (n - (i + 1))
@@ -12,3 +12,9 @@ before_each-more pairs i j n lt = append_assoc pairs ((i, j) ∷ []) (before_eac
 -- one row more
 pub in_turn-more : (pairs : List (ℕ × ℕ)) (i n : ℕ) → i < n → (pairs ++ before_each i (i + 1) (n - (i + 1))) ++ in_turn (i + 1) (n - (i + 1)) ≡ pairs ++ in_turn i (n - i)
 in_turn-more pairs i n lt = append_assoc pairs (before_each i (i + 1) (n - (i + 1))) (in_turn (i + 1) (n - (i + 1))) ∙ ap (λ k. pairs ++ in_turn i k) (sym (one_more n i lt))
+
+-- the last row has no pairs
+pub in_turn-last : (i k : ℕ) → k ≤ 1 → in_turn i k ≡ []
+in_turn-last i zero le = refl
+in_turn-last i (suc zero) le = refl
+in_turn-last i (suc (suc k)) le = absurd (omega arith)

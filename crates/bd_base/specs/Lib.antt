@@ -1,7 +1,12 @@
+pub mod Bits
 pub mod Causes
+pub mod Cells
 pub mod FactSet
 pub mod Facts
 pub mod MemShelf
 pub mod MemSink
+pub mod PairList
 pub mod Pairs
+pub mod Row
+pub mod Rows
 pub mod Shelf

@@ -1,6 +1,6 @@
 -- Lists of pairs of positions, as orders: (i, j) says that i is before j.
-use Rattle.std.specs.List.{list_any}
-use Rattle.std.specs.Prelude.{ℕ, zero, suc, ◌+◌, Bool, ◌&&◌, ◌==◌, List, [], ◌∷◌, ◌++◌}
+use Rattle.std.specs.List.{list_any, list_all, filter}
+use Rattle.std.specs.Prelude.{ℕ, zero, suc, ◌+◌, Bool, not, ◌&&◌, ◌||◌, ◌==◌, List, [], ◌∷◌, ◌++◌, map}
 
 -- whether i is before j
 abbrev pub is_before : List (ℕ × ℕ) → ℕ → ℕ → Bool
@@ -19,3 +19,11 @@ in_turn i (suc k) = before_each i (i + 1) k ++ in_turn (i + 1) k
 -- the order of n positions in which each is before all later ones
 abbrev pub total_order : ℕ → List (ℕ × ℕ)
 total_order n = in_turn 0 n
+
+-- the positions that i is before
+abbrev pub after_of : List (ℕ × ℕ) → ℕ → List ℕ
+after_of order i = map (λ p. p.1) (filter (λ p. p.0 == i) order)
+
+-- whether i is before k wherever i is before some j and j is before k
+abbrev pub is_closed : List (ℕ × ℕ) → Bool
+is_closed order = list_all (λ p. list_all (λ q. not (p.1 == q.0) || is_before order p.0 q.1) order) order

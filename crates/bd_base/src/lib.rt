@@ -3,22 +3,30 @@
 //!
 //! It knows no other crate of the repository. It promises that a `FactSet` is the strictly rising list of
 //! its facts after every call, that `Items` and `PairList` are the lists that they were made of, and that a
-//! shelf or a sink answers an error only where its count of faults rose in the call, or the shelf tells it.
+//! shelf or a sink answers an error only where its trait says: where it tells so, or a count rose in the call,
+//! or memory was wanting.
 //! No clause shows how sets and pairs are stored: they are walked by `iter` and asked by `has`.
 #![tactic(auto)]
 
+mod cells;
 mod facts;
 mod ids;
 mod items;
 mod pairs;
+mod places;
+mod row;
+mod row_building;
+mod rows;
 mod shelf;
 mod sink;
 mod text_err;
+mod word_sets;
 
 pub use facts::{FactSet, Facts};
 pub use ids::{ActionId, FactId, NoMemory, NodeId};
 pub use items::{FromItems, Items};
 pub use pairs::{PairList, Pairs};
+pub use row::{Row, RowPlaces};
 pub use shelf::{DirShelf, MemShelf, Shelf, ShelfErr};
 pub use sink::{Failed, MemSink, Sink, StreamSink};
 pub use text_err::{Cause, Limit, TextErr};

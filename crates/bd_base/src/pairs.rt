@@ -1,15 +1,26 @@
-ghost use Rattle.std.specs.Prelude.{◌≡◌, ◌+◌, ◌-◌, ◌<◌, ◌++◌, IfOk, OnOk, slice_get, length};
-ghost use Rattle.bd_base.specs.Pairs.{is_before, before_each, total_order};
+ghost use Rattle.std.specs.Prelude.{◌≡◌, ◌↔◌, ◌+◌, ◌-◌, ◌<◌, ◌++◌, IfOk, OnOk, IsTrue, slice_get, length};
+ghost use Rattle.bd_base.specs.Pairs.{after_of, before_each, is_before, is_closed, total_order};
 
 use crate::NoMemory;
+use crate::row::Row;
+use crate::row_building::{rows_of, total_rows};
+use crate::rows::{ROW_LIMIT, RowPairs, Rows};
 use std::alloc::Global;
 use std::marker::Model;
+
+/// How pairs are stored: as rows of words where they rise strictly and each is i < j < 8192, and else as
+/// they stand.
+#[derive(Debug, Drop)]
+enum Form {
+    Listed(Vec<(u32, u32)>),
+    InRows(Rows),
+}
 
 /// A list of pairs of positions, seen as that list. As an order, the pair `(i, j)` says that position
 /// i is before position j.
 #[derive(Debug, Drop)]
 pub struct PairList {
-    pairs: Vec<(u32, u32)>,
+    form: Form,
 }
 
 impl Model for PairList {
@@ -17,7 +28,9 @@ impl Model for PairList {
 
     ghost Value = { List (ℕ × ℕ) };
 
-    ghost view = { λ p. p.pairs.items };
+    ghost use Rattle.bd_base.specs.PairList.{pairs_in};
+
+    ghost view = { λ p. pairs_in p.form };
 }
 
 impl PairList {
@@ -25,60 +38,148 @@ impl PairList {
     pub fn of(alloc: Global, pairs: &[(u32, u32)]) -> Result<PairList, NoMemory>
         ensures { IfOk result (λ p. p ≡ pairs.now) }
     {
-        Ok(PairList {
-            pairs: Vec::from_slice(alloc, pairs)?,
-        })
+        let form = match rows_of(alloc, pairs)? {
+            None => Form::Listed(Vec::from_slice(alloc, pairs)?),
+            Some(rows) => Form::InRows(rows),
+        };
+        Ok(PairList { form })
     }
 
     /// The order of n positions in which each is before all later ones.
     pub fn total(alloc: Global, n: u32) -> Result<PairList, NoMemory>
         ensures { IfOk result (λ p. p ≡ total_order n) }
     {
-        let mut pairs = Vec::new(alloc);
-        for i in 0..n {
-            push_row(&mut pairs, i, n)?;
+        if n <= ROW_LIMIT {
+            if let Some(rows) = total_rows(alloc, n)? {
+                return Ok(PairList {
+                    form: Form::InRows(rows),
+                });
+            }
         }
-        Ok(PairList { pairs })
+        Ok(PairList {
+            form: Form::Listed(total_pairs(alloc, n)?),
+        })
     }
 
     /// How many pairs it has.
     pub fn len(&self) -> usize
         ensures { result ≡ length self.now }
     {
-        self.pairs.len()
+        match &self.form {
+            Form::Listed(pairs) => pairs.len(),
+            Form::InRows(rows) => rows.len(),
+        }
     }
 
     /// The pair at a place from 0.
     pub fn at(&self, k: usize) -> Option<(u32, u32)>
         ensures { result ≡ slice_get self.now k }
     {
-        self.pairs.get(k).copied()
+        match &self.form {
+            Form::Listed(pairs) => pairs.get(k).copied(),
+            Form::InRows(rows) => rows.at(k),
+        }
     }
 
     /// Whether the pair is in the list: as an order, whether i is before j.
     pub fn has(&self, i: u32, j: u32) -> bool
         ensures { result ≡ is_before self.now i j }
     {
-        self.pairs.iter().any(|p| p.0 == i && p.1 == j)
+        match &self.form {
+            Form::Listed(pairs) => pairs.iter().any(|p| p.0 == i && p.1 == j),
+            Form::InRows(rows) => rows.has(i, j),
+        }
+    }
+
+    /// The positions that i is before, in the order of the pairs. It takes no memory.
+    pub fn after(&self, i: u32) -> Row<'_>
+        ensures { result ≡ after_of self.now i }
+    {
+        match &self.form {
+            Form::Listed(pairs) => Row::of_pairs(pairs, i),
+            Form::InRows(rows) => Row::of_words(rows.row(i)),
+        }
+    }
+
+    /// Whether i is before k wherever i is before some j and j is before k.
+    pub fn is_closed(&self) -> bool
+        ensures { result ≡ is_closed self.now }
+    {
+        for p in self.iter() {
+            if !self.after(p.1).within(&self.after(p.0)) {
+                return false;
+            }
+        }
+        true
+    }
+
+    /// Whether it is the order of n positions in which each is before all later ones.
+    pub fn is_total(&self, n: usize) -> bool
+        ensures { IsTrue result ↔ self.now ≡ total_order n }
+    {
+        match &self.form {
+            Form::Listed(_) => walk_is_total(self, n),
+            Form::InRows(rows) => rows.is_total(n),
+        }
+    }
+
+    // Whether it is stored as rows of words.
+    #[cfg(test)]
+    pub(crate) fn is_in_rows(&self) -> bool {
+        matches!(&self.form, Form::InRows(_))
     }
 
     /// The pairs as they stand. It takes no memory.
     pub fn iter(&self) -> Pairs<'_>
         ensures { result ≡ self.now }
     {
-        Pairs {
-            left: self.pairs.as_slice(),
-        }
+        let walk = match &self.form {
+            Form::Listed(pairs) => Walk::Listed(pairs.as_slice()),
+            Form::InRows(rows) => Walk::InRows(rows.iter()),
+        };
+        Pairs { walk }
     }
 
     /// The same list.
     pub fn try_copy(&self, alloc: Global) -> Result<PairList, NoMemory>
         ensures { IfOk result (λ p. p ≡ self.now) }
     {
-        Ok(PairList {
-            pairs: Vec::from_slice(alloc, &self.pairs)?,
-        })
+        let form = match &self.form {
+            Form::Listed(pairs) => Form::Listed(Vec::from_slice(alloc, pairs)?),
+            Form::InRows(rows) => Form::InRows(rows.try_copy(alloc)?),
+        };
+        Ok(PairList { form })
     }
+}
+
+// Whether the order of n positions puts each before all later ones, pair by pair.
+fn walk_is_total(order: &PairList, n: usize) -> bool
+    ensures { IsTrue result ↔ order.now ≡ total_order n }
+{
+    let mut i = 0;
+    let mut j = 1;
+    for p in order.iter() {
+        if j >= n || p.0 as usize != i || p.1 as usize != j {
+            return false;
+        }
+        j += 1;
+        if j == n {
+            i += 1;
+            j = i + 1;
+        }
+    }
+    j >= n
+}
+
+// The pairs of the order of n positions in which each is before all later ones.
+fn total_pairs(alloc: Global, n: u32) -> Result<Vec<(u32, u32)>, NoMemory>
+    ensures { IfOk result (λ pairs. pairs.items ≡ total_order n) }
+{
+    let mut pairs = Vec::new(alloc);
+    for i in 0..n {
+        push_row(&mut pairs, i, n)?;
+    }
+    Ok(pairs)
 }
 
 // Adds the pairs of i with all later positions below n.
@@ -92,10 +193,16 @@ fn push_row(pairs: &mut Vec<(u32, u32)>, i: u32, n: u32) -> Result<(), NoMemory>
     Ok(())
 }
 
+#[derive(Debug, Drop)]
+enum Walk<'a> {
+    Listed(&'a [(u32, u32)]),
+    InRows(RowPairs<'a>),
+}
+
 /// A walk through a list of pairs; seen as the pairs that are left.
 #[derive(Debug, Drop)]
 pub struct Pairs<'a> {
-    left: &'a [(u32, u32)],
+    walk: Walk<'a>,
 }
 
 impl<'a> Model for Pairs<'a> {
@@ -103,7 +210,9 @@ impl<'a> Model for Pairs<'a> {
 
     ghost Value = { List (ℕ × ℕ) };
 
-    ghost view = { λ s. s.left.now };
+    ghost use Rattle.bd_base.specs.PairList.{pairs_left};
+
+    ghost view = { λ s. pairs_left s.walk };
 }
 
 impl<'a> Iterator for Pairs<'a> {
@@ -116,8 +225,13 @@ impl<'a> Iterator for Pairs<'a> {
     ghost remaining = { item_count (λ s. s) };
 
     fn next(&mut self) -> Option<(u32, u32)> {
-        let (first, left) = self.left.split_first()?;
-        self.left = left;
-        Some(*first)
+        match &mut self.walk {
+            Walk::Listed(left) => {
+                let (first, rest) = left.split_first()?;
+                *left = rest;
+                Some(*first)
+            }
+            Walk::InRows(rows) => rows.next(),
+        }
     }
 }

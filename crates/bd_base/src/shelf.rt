@@ -1,5 +1,6 @@
 ghost use Rattle.std.specs.Prelude.{◌≡◌, ◌+◌, ◌≤◌, ◌∷◌, [], length, Some, None, List, ℕ, IfOk, OnOk, MatchOption, vec_len};
-ghost use Rattle.bd_base.specs.Shelf.{Told, untold, absent, text, told_of};
+ghost use Rattle.bd_base.specs.Shelf.{Told, Reads, untold, absent, text, told_of};
+ghost use Rattle.bd_base.specs.MemShelf.{MemShelfState, refusal, AnswersBy, after_read};
 
 use crate::Text;
 use std::alloc::Global;
@@ -44,8 +45,10 @@ pub trait Shelf {
         ensures given { Reads (tells self.old name.now) max (faults self.old) (faults self.new) (longs self.old) (longs self.new) result };
 }
 
-/// A shelf in memory, which tells its texts; where a name stands twice, the first counts. The listed
-/// calls, counted from 1, fail.
+/// A shelf in memory, which tells its texts and is exactly its lists; where a name stands twice, the first counts.
+/// A call for an absent name answers `Missing`. Else a text that is longer than `max` answers `TooBig`, and one long
+/// text more is counted. Else a listed call, counted from 1, answers `Failed`, and one fault more is counted. Every
+/// other call gives the text, or finds no memory. Nothing else changes but the count of calls.
 #[derive(Drop)]
 pub struct MemShelf {
     names: Vec<Text>,
@@ -103,7 +106,14 @@ impl Shelf for MemShelf {
 
     ghost longs = { λ s. s.longs };
 
-    fn read(&mut self, alloc: Global, name: &str, max: usize) -> Result<Vec<u8>, ShelfErr> {
+    fn read(&mut self, alloc: Global, name: &str, max: usize) -> Result<Vec<u8>, ShelfErr>
+        ensures told { (n : List ℕ) → told_of self.new.names self.new.texts n ≡ told_of self.old.names self.old.texts n }
+        ensures faults { self.old.faults ≤ self.new.faults }
+        ensures longs { self.old.longs ≤ self.new.longs }
+        ensures given { Reads (told_of self.old.names self.old.texts name.now) max self.old.faults self.new.faults self.old.longs self.new.longs result }
+        ensures answer { AnswersBy (refusal self.old name.now max) result }
+        ensures next { self.new ≡ after_read self.old name.now max }
+    {
         self.calls = self.calls.saturating_add(1);
         let Some(text) = find_text(&self.names, &self.texts, name.as_bytes()) else {
             return Err(ShelfErr::Missing);
@@ -146,7 +156,7 @@ impl<F: Files> DirShelf<F> {
     }
 }
 
-// Up to `max` bytes and one more.
+// All that the reader has, or an error once that is more than `max` bytes.
 fn read_bytes<R: Read>(alloc: Global, file: &mut R, max: usize) -> Result<Vec<u8>, ShelfErr>
     ensures { IfOk result (λ v. length v.items ≤ max) }
 {

@@ -1,6 +1,6 @@
 ghost use Rattle.std.specs.Prelude.{◌≡◌, ◌+◌, ◌≤◌, ◌∷◌, [], length, Some, None, List, ℕ, IfOk, OnOk, OnErr, IsOk, vec_capacity};
 ghost use Rattle.bd_base.specs.Causes.{HasCause, TakesPart, appended};
-ghost use Rattle.bd_base.specs.MemSink.{MemSinkState, fails_after, next_call, IsReadyFor};
+ghost use Rattle.bd_base.specs.MemSink.{MemSinkState, fails_after, next_call, IsReadyFor, after_put};
 
 use crate::NoMemory;
 use std::alloc::Global;
@@ -59,8 +59,10 @@ impl<W: Write> Sink for StreamSink<W> {
     }
 }
 
-/// A sink in memory. Its room is reserved when it is made, and a piece that doesn't fit is a fault; so is
-/// each of the listed calls, counted from 1, after it took so many bytes.
+/// A sink in memory, which is exactly its lists. Its room is reserved when it is made. A call takes its whole piece and
+/// answers Ok where it isn't listed and the piece fits in the room that is left. Any other call is a fault, and one
+/// fault more is counted: a listed call, counted from 1, takes the listed number of bytes, and another call the whole
+/// piece, both no further than the piece and the room go. No other call changes the count of faults.
 #[derive(Drop)]
 pub struct MemSink {
     written: Vec<u8>,
@@ -129,6 +131,7 @@ impl Sink for MemSink {
         ensures room { self.new.room ≡ self.old.room }
         ensures fails { self.new.fails ≡ self.old.fails }
         ensures calls { self.new.calls ≡ next_call self.old }
+        ensures next { self.new ≡ after_put self.old piece.now }
     {
         self.calls = self.calls.saturating_add(1);
         let left = self.room - self.written.len();

@@ -60,6 +60,64 @@ fn a_set_changes(rt: HostRuntime) -> Result<(), Fail> {
     Ok(())
 }
 
+// Whether two sets have the same facts.
+fn are_same(first: &FactSet, second: &FactSet) -> bool {
+    first.subset(second) && second.subset(first) && first.len() == second.len()
+}
+
+#[test]
+fn a_set_has_its_facts_at_the_ends_of_words(rt: HostRuntime) -> Result<(), Fail> {
+    let alloc = rt.alloc();
+    let wide = set(alloc, &[0, 63, 64, 262_143])?;
+    assert!(rt; !wide.is_plain());
+    assert_eq!(rt; wide.len(), 4);
+    assert!(rt; wide.subset(&wide));
+    let less = set(alloc, &[0, 63, 262_143])?;
+    assert!(rt; !wide.subset(&less));
+    assert!(rt; less.subset(&wide));
+    assert_eq!(rt;
+        listed(alloc, &wide)?.as_slice(),
+        [0, 63, 64, 262_143].as_slice()
+    );
+    Ok(())
+}
+
+#[test]
+fn sets_are_joined_and_taken_out(rt: HostRuntime) -> Result<(), Fail> {
+    let alloc = rt.alloc();
+    let mut joined = set(alloc, &[1])?;
+    let both = set(alloc, &[1, 64])?;
+    joined.join(alloc, &both)?;
+    assert!(rt; are_same(&joined, &both));
+    assert!(rt; joined.is_plain());
+    assert!(rt; joined.meets(&set(alloc, &[64, 9000])?));
+    assert!(rt; !joined.meets(&set(alloc, &[2, 9000])?));
+    joined.minus(&set(alloc, &[64, 9000])?);
+    assert_eq!(rt; listed(alloc, &joined)?.as_slice(), [1].as_slice());
+    joined.join(alloc, &set(alloc, &[9000])?)?;
+    assert!(rt; !joined.is_plain());
+    joined.minus(&both);
+    assert_eq!(rt; listed(alloc, &joined)?.as_slice(), [9000].as_slice());
+    Ok(())
+}
+
+#[test]
+fn sets_in_both_forms_are_equal(rt: HostRuntime) -> Result<(), Fail> {
+    let alloc = rt.alloc();
+    let near = set(alloc, &[5, 70])?;
+    assert!(rt; near.is_plain());
+    let mut far = set(alloc, &[5, 70, 6400])?;
+    assert!(rt; !far.is_plain());
+    assert!(rt; far.remove(FactId(6400)));
+    assert!(rt; !far.is_plain());
+    assert!(rt; are_same(&near, &far));
+    assert!(rt; far.try_copy(alloc)?.is_plain());
+    assert!(rt; far.insert(alloc, FactId(6))?);
+    assert!(rt; far.is_plain());
+    assert!(rt; !are_same(&near, &far));
+    Ok(())
+}
+
 #[test]
 fn pairs_stand_as_they_were_given(rt: HostRuntime) -> Result<(), Fail> {
     let alloc = rt.alloc();
@@ -73,6 +131,54 @@ fn pairs_stand_as_they_were_given(rt: HostRuntime) -> Result<(), Fail> {
     assert_eq!(rt; total.len(), 6);
     assert_eq!(rt; total.at(5), Some((2, 3)));
     assert_eq!(rt; total.try_copy(alloc)?.iter().next(), Some((0, 1)));
+    Ok(())
+}
+
+#[test]
+fn pairs_that_rise_are_rows(rt: HostRuntime) -> Result<(), Fail> {
+    let alloc = rt.alloc();
+    let pairs = [(0, 1), (0, 64), (3, 4), (3, 8191), (8190, 8191)];
+    let order = PairList::of(alloc, &pairs)?;
+    assert!(rt; order.is_in_rows());
+    assert!(rt; order.try_copy(alloc)?.is_in_rows());
+    assert_eq!(rt; order.len(), 5);
+    let mut walked = Vec::new(alloc);
+    for p in order.iter() {
+        walked.push(p)?;
+    }
+    assert_eq!(rt; walked.as_slice(), pairs.as_slice());
+    assert!(rt; order.has(3, 8191));
+    assert!(rt; !order.has(3, 8190));
+    assert!(rt; !order.has(1, 64));
+    assert_eq!(rt; order.at(3), Some((3, 8191)));
+    assert_eq!(rt; order.at(5), None);
+    Ok(())
+}
+
+#[test]
+fn other_pairs_are_listed(rt: HostRuntime) -> Result<(), Fail> {
+    let alloc = rt.alloc();
+    assert!(rt; !PairList::of(alloc, &[(0, 2), (0, 1)])?.is_in_rows());
+    assert!(rt; !PairList::of(alloc, &[(0, 1), (0, 1)])?.is_in_rows());
+    assert!(rt; !PairList::of(alloc, &[(1, 2), (0, 1)])?.is_in_rows());
+    assert!(rt; !PairList::of(alloc, &[(1, 1)])?.is_in_rows());
+    assert!(rt; !PairList::of(alloc, &[(0, 8192)])?.is_in_rows());
+    assert!(rt; PairList::of(alloc, &[])?.is_in_rows());
+    Ok(())
+}
+
+#[test]
+fn a_total_order_is_known(rt: HostRuntime) -> Result<(), Fail> {
+    let alloc = rt.alloc();
+    let total = PairList::total(alloc, 130)?;
+    assert!(rt; total.is_in_rows());
+    assert_eq!(rt; total.len(), 8385);
+    assert!(rt; total.is_total(130));
+    assert!(rt; !total.is_total(131));
+    assert!(rt; !total.is_total(129));
+    let listed = PairList::of(alloc, &[(0, 1), (1, 1)])?;
+    assert!(rt; !listed.is_total(2));
+    assert!(rt; PairList::of(alloc, &[])?.is_total(1));
     Ok(())
 }
 

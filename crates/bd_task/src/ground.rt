@@ -99,10 +99,11 @@ impl Task {
         self.actions.len() as u32
     }
 
-    /// The facts that are true at the start.
+    /// The facts that are true at the start. Its caller also learns the conditions that each task meets.
     pub fn init(&self) -> &FactSet
         ensures set { result.now ≡ self.now.init }
         ensures fits { AreBelow (length self.now.facts) result.now }
+        ensures task { IsTask self.now }
     {
         &self.init
     }
@@ -127,8 +128,8 @@ impl Task {
             return Ok(false);
         }
         let mut next = s.try_copy(alloc)?;
-        remove_all(&mut next, &action.del);
-        insert_all(alloc, &mut next, &action.add)?;
+        next.minus(&action.del);
+        next.join(alloc, &action.add)?;
         *s = next;
         Ok(true)
     }
@@ -177,21 +178,4 @@ fn copies_of_actions(alloc: Global, actions: &[Action]) -> Result<Vec<Action>, N
         copies.push(action.try_copy(alloc)?)?;
     }
     Ok(copies)
-}
-
-fn remove_all(s: &mut FactSet, facts: &FactSet)
-    ensures { s.new ≡ minus s.old facts.now }
-{
-    for f in facts.iter() {
-        s.remove(f);
-    }
-}
-
-fn insert_all(alloc: Global, s: &mut FactSet, facts: &FactSet) -> Result<(), NoMemory>
-    ensures { IfOk result (λ _. s.new ≡ plus s.old facts.now) }
-{
-    for f in facts.iter() {
-        s.insert(alloc, f)?;
-    }
-    Ok(())
 }

@@ -1,0 +1,7 @@
+use Rattle.std.proofs.Common.{◌≡◌, ◌*◌, drop}
+use Rattle.bd_base.specs.Bits.{row_of}
+use Rattle.bd_base.specs.Facts.{is_subset}
+use Rattle.bd_base.proofs.facts.FactSet.has_words.Given as goal
+
+abbrev pub invariant-loop-n : goal.invariant-loop-n
+invariant-loop-n l = is_subset (row_of (64 * l.n) (drop l.n l.words)) l.self ≡ is_subset (row_of 0 l.words) l.self

@@ -1,0 +1,27 @@
+use Rattle.std.proofs.Common.{◌*◌, ◌<◌, length, get_or, ◌∙◌, ap, sym, refl, arith}
+use Rattle.std.specs.List.{list_any}
+use Rattle.std.proofs.lemmas.Bool.{ne_eqb, eq-eqb}
+use Rattle.bd_base.specs.Bits.{row_of}
+use Rattle.bd_base.specs.Facts.{has}
+use Rattle.bd_base.proofs.SetLemmas.{any_row, drop_all, word_test}
+use Rattle.bd_base.proofs.word_sets.meet.Goals as goal
+
+pub returns-then-word_at-word-ne0 : goal.returns-then-word_at-word-ne0
+returns-then-word_at-word-ne0 c =
+    let others = row_of 0 c.args.others.now in
+    let n = c.loop-n.n in
+    let lt : n < length c.args.words.now = omega arith in
+    let test = word_test c.args.others.now n c.word_at.result (get_or c.args.words.now n 0) c.word_at.ensures c.word_at.type_inv in
+    sym (sym c.loop-n.invariant ∙ any_row (has others) c.args.words.now n lt ∙ rw (test, ne_eqb _ 0 c.if-word_at-word-ne0.true) refl)
+
+pub loop-n-preserved : goal.loop-n-preserved
+loop-n-preserved c =
+    let others = row_of 0 c.args.others.now in
+    let n = c.loop-n.n in
+    let lt : n < length c.args.words.now = omega arith in
+    let test = word_test c.args.others.now n c.word_at.result (get_or c.args.words.now n 0) c.word_at.ensures c.word_at.type_inv in
+    sym (any_row (has others) c.args.words.now n lt ∙ rw (test, eq-eqb _ 0 c.if-word_at-word-ne0.false) refl) ∙ c.loop-n.invariant
+
+pub returns : goal.returns
+returns c =
+    sym (ap (λ z. list_any (has (row_of 0 c.args.others.now)) (row_of (64 * c.loop-n.n) z)) (drop_all c.args.words.now c.loop-n.n (omega arith))) ∙ c.loop-n.invariant

@@ -1,0 +1,282 @@
+// An order of less than 8192 positions as rows of words: row i holds the positions that i is before.
+ghost use Rattle.std.specs.Prelude.{◌≡◌, ◌↔◌, ℕ, ◌+◌, ◌-◌, ◌*◌, ◌<◌, ◌≤◌, ◌++◌, ◌∷◌, [], List, true, max, map, length, IfOk, OnOk, IsTrue, slice_get};
+ghost use Rattle.bd_base.specs.Bits.{row_of};
+ghost use Rattle.bd_base.specs.Pairs.{after_of, is_before, total_order};
+ghost use Rattle.bd_base.specs.Rows.{AreSpans, pairs_of, pairs_with, words_at};
+
+use crate::NoMemory;
+use crate::places::{Places, count_places, has_place, is_run};
+use std::alloc::Global;
+use std::marker::Model;
+
+/// No position of an order that is stored as rows is as large as this.
+pub(crate) const ROW_LIMIT: u32 = 8192;
+
+/// Where a row's words lie among all words.
+#[derive(Clone, Copy, Debug)]
+pub(crate) struct Span {
+    start: usize,
+    end: usize,
+}
+
+/// The rows from the first on; seen as their pairs.
+#[derive(Debug, Drop)]
+pub(crate) struct Rows {
+    first: u32,
+    spans: Vec<Span>,
+    words: Vec<u64>,
+}
+
+impl Model for Rows {
+    ghost use Rattle.std.specs.Prelude.{List, ℕ, ◌+◌, ◌≤◌, length};
+    ghost use Rattle.bd_base.specs.Rows.{AreSpans, pairs_of};
+
+    ghost Value = { List (ℕ × ℕ) };
+
+    ghost view = { λ r. pairs_of r.words.items r.first r.spans.items };
+
+    ghost invariant = { λ r. (r.first + length r.spans.items ≤ 8192) × AreSpans (length r.words.items) r.spans.items };
+}
+
+// Adds rows without a position until there are n.
+fn pass_rows(spans: &mut Vec<Span>, n: usize) -> Result<(), NoMemory>
+    ensures same { (words : List ℕ) (i : ℕ) → pairs_of words i spans.new.items ≡ pairs_of words i spans.old.items }
+    ensures fits { (size : ℕ) → AreSpans size spans.old.items → AreSpans size spans.new.items }
+    ensures few { length spans.new.items ≤ max (length spans.old.items) n }
+    ensures many { OnOk result (n ≤ length spans.new.items) }
+{
+    while spans.len() < n {
+        spans.push(Span { start: 0, end: 0 })?;
+    }
+    Ok(())
+}
+
+// Puts in a row behind all rows, as the one at a place.
+fn add_row(
+    spans: &mut Vec<Span>,
+    words: &mut Vec<u64>,
+    at: usize,
+    row: &[u64],
+) -> Result<(), NoMemory>
+    requires behind { length spans.old.items ≤ at }
+    requires fits { AreSpans (length words.old.items) spans.old.items }
+    requires short { length row.now ≤ 128 }
+    ensures fits { AreSpans (length words.new.items) spans.new.items }
+    ensures few { length spans.new.items ≤ at + 1 }
+    ensures added { OnOk result ((i : ℕ) → pairs_of words.new.items i spans.new.items ≡ pairs_of words.old.items i spans.old.items ++ pairs_with (i + at) (row_of 0 row.now)) }
+{
+    pass_rows(spans, at)?;
+    let start = words.len();
+    words.extend_from_slice(row)?;
+    spans.push(Span {
+        start,
+        end: start + row.len(),
+    })?;
+    Ok(())
+}
+
+// The number of the first row, where row i comes: that of the rows that are there.
+fn first_with(first: u32, spans: &[Span], i: u32) -> u32
+    requires { (first + length spans.now ≤ 8192) × (i < 8192) }
+    ensures same { (words : List ℕ) → pairs_of words result spans.now ≡ pairs_of words first spans.now }
+    ensures few { result + length spans.now ≤ 8192 }
+{
+    if spans.is_empty() { i } else { first }
+}
+
+// The words of a row.
+fn part_of(words: &[u64], span: Span) -> &[u64]
+    requires { (span.start ≤ span.end) × (span.end ≤ length words.now) × (span.end ≤ span.start + 128) }
+    ensures value { result.now ≡ words_at words.now span }
+    ensures short { length result.now ≤ 128 }
+{
+    &words[span.start..span.end]
+}
+
+impl Rows {
+    /// No rows.
+    pub(crate) fn new(alloc: Global) -> Rows
+        ensures { result ≡ [] }
+    {
+        Rows {
+            first: 0,
+            spans: Vec::new(alloc),
+            words: Vec::new(alloc),
+        }
+    }
+
+    /// No rows, with room for some, each of so many words.
+    pub(crate) fn with_room(alloc: Global, rows: u32, width: u32) -> Result<Rows, NoMemory>
+        requires { (rows ≤ 8192) × (width ≤ 128) }
+        ensures { IfOk result (λ made. made ≡ []) }
+    {
+        Ok(Rows {
+            first: 0,
+            spans: Vec::with_capacity(alloc, rows as usize)?,
+            words: Vec::with_capacity(alloc, rows as usize * width as usize)?,
+        })
+    }
+
+    /// How many pairs they have.
+    pub(crate) fn len(&self) -> usize
+        ensures { result ≡ length self.now }
+    {
+        let mut n = 0;
+        for span in &self.spans {
+            n += count_places(part_of(&self.words, *span));
+        }
+        n
+    }
+
+    /// The pair at a place from 0.
+    pub(crate) fn at(&self, k: usize) -> Option<(u32, u32)>
+        ensures { result ≡ slice_get self.now k }
+    {
+        let mut left = k;
+        for p in self.iter() {
+            if left == 0 {
+                return Some(p);
+            }
+            left -= 1;
+        }
+        None
+    }
+
+    /// Puts in the pairs of i with the positions of words, where row i is behind all rows; false where it
+    /// isn't. A row without words is left out.
+    pub(crate) fn push_row(&mut self, i: u32, row: &[u64]) -> Result<bool, NoMemory>
+        requires { length row.now ≤ 128 }
+        ensures { IfOk result (λ took. took ≡ true → self.new ≡ self.old ++ pairs_with i (row_of 0 row.now)) }
+    {
+        if row.is_empty() {
+            return Ok(true);
+        }
+        if i >= ROW_LIMIT {
+            return Ok(false);
+        }
+        let first = first_with(self.first, &self.spans, i);
+        if i < first {
+            return Ok(false);
+        }
+        let at = (i - first) as usize;
+        if at < self.spans.len() {
+            return Ok(false);
+        }
+        self.first = first;
+        add_row(&mut self.spans, &mut self.words, at, row)?;
+        Ok(true)
+    }
+
+    /// The words of the positions that i is before.
+    pub(crate) fn row(&self, i: u32) -> &[u64]
+        ensures row { row_of 0 result.now ≡ after_of self.now i }
+        ensures short { length result.now ≤ 128 }
+    {
+        if i < self.first {
+            return &[];
+        }
+        match self.spans.get((i - self.first) as usize) {
+            None => &[],
+            Some(span) => part_of(&self.words, *span),
+        }
+    }
+
+    /// Whether i is before j.
+    pub(crate) fn has(&self, i: u32, j: u32) -> bool
+        ensures { result ≡ is_before self.now i j }
+    {
+        has_place(self.row(i), j)
+    }
+
+    /// Whether they are the order of n positions in which each is before all later ones.
+    pub(crate) fn is_total(&self, n: usize) -> bool
+        ensures { IsTrue result ↔ self.now ≡ total_order n }
+    {
+        let stored = self.first + self.spans.len() as u32;
+        if n > ROW_LIMIT as usize + 1 {
+            return false;
+        }
+        let end = n as u32;
+        for i in 0..end.max(stored) {
+            if !is_run(self.row(i), end.min(i + 1), end) {
+                return false;
+            }
+        }
+        true
+    }
+
+    /// The same rows.
+    pub(crate) fn try_copy(&self, alloc: Global) -> Result<Rows, NoMemory>
+        ensures { IfOk result (λ copy. copy ≡ self.now) }
+    {
+        Ok(Rows {
+            first: self.first,
+            spans: Vec::from_slice(alloc, &self.spans)?,
+            words: Vec::from_slice(alloc, &self.words)?,
+        })
+    }
+
+    /// The pairs in order. It takes no memory.
+    pub(crate) fn iter(&self) -> RowPairs<'_>
+        ensures { result ≡ self.now }
+    {
+        match self.spans.split_first() {
+            None => RowPairs {
+                at: 0,
+                row: Places::new(&[]),
+                spans: &[],
+                words: &self.words,
+            },
+            Some((span, spans)) => RowPairs {
+                at: self.first,
+                row: Places::new(part_of(&self.words, *span)),
+                spans,
+                words: &self.words,
+            },
+        }
+    }
+}
+
+/// A walk through the pairs of rows; seen as those that are left.
+#[derive(Debug, Drop)]
+pub(crate) struct RowPairs<'a> {
+    at: u32,
+    row: Places<'a>,
+    spans: &'a [Span],
+    words: &'a [u64],
+}
+
+impl<'a> Model for RowPairs<'a> {
+    ghost use Rattle.std.specs.Prelude.{List, ℕ, ◌+◌, ◌≤◌, ◌++◌, length};
+    ghost use Rattle.bd_base.specs.Rows.{AreSpans, pairs_of, pairs_with};
+
+    ghost Value = { List (ℕ × ℕ) };
+
+    ghost view = { λ s. pairs_with s.at s.row ++ pairs_of s.words.now (s.at + 1) s.spans.now };
+
+    ghost invariant = { λ s. (s.at + length s.spans.now ≤ 8192) × AreSpans (length s.words.now) s.spans.now };
+}
+
+impl<'a> Iterator for RowPairs<'a> {
+    type Item = (u32, u32);
+
+    ghost use Rattle.std.specs.Iterator.{YieldsFirst, item_count};
+
+    ghost next_gives = { YieldsFirst (λ s. s) };
+
+    ghost remaining = { item_count (λ s. s) };
+
+    fn next(&mut self) -> Option<(u32, u32)> {
+        loop {
+            if let Some(j) = self.row.next() {
+                return Some((self.at, j));
+            }
+            let Some((span, spans)) = self.spans.split_first() else {
+                return None;
+            };
+            self.at += 1;
+            self.row = Places::new(part_of(self.words, *span));
+            self.spans = spans;
+        }
+    }
+}
