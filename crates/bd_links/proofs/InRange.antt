@@ -1,4 +1,4 @@
--- The chain of a list has the list's actions.
+-- Where the actions of a list are below a number, so are those of its chain.
 use Rattle.std.proofs.Common.{◌≡◌, ℕ, ◌+◌, ◌<◌, Bool, true, List, [], ◌∷◌, length, map, nat_lt, refl, sym, ap, ◌∙◌, lt-ltb}
 use Rattle.std.proofs.lemmas.Bool.{and_from}
 use Rattle.std.specs.List.{list_all, AllByRecursion}

@@ -1,4 +1,5 @@
 pub mod Equations
+pub mod FactRange
 pub mod Faultless
 pub mod InRange
 pub mod Members
@@ -11,4 +12,3 @@ pub mod There
 pub mod TotalOrder
 pub mod Passes
 pub mod ChainLaw
-pub mod Walk

@@ -40,3 +40,9 @@ goal_fault (Some p) = Some (Goal p)
 -- the fault of a root with these effects: the least need that the initial set lacks, and then the least goal fact that isn't true at the end
 abbrev pub root_fault : List ℕ → List ℕ → Effects → Option Fault
 root_fault init goal e = option_or (need_fault (lacking e.need init)) (goal_fault (find (λ g. not (holds_after init e g)) goal))
+
+-- the fact that a fault tells
+abbrev pub fact_of : Fault → ℕ
+fact_of (Inside block child p) = p
+fact_of (Need p) = p
+fact_of (Goal p) = p

@@ -5,7 +5,7 @@ ghost use Rattle.bd_links.specs.Effects.{block_effects};
 ghost use Rattle.bd_links.specs.Faults.{block_fault};
 ghost use Rattle.bd_links.specs.Judged.{Judges};
 
-use crate::in_turn::{effects_in_turn, is_total, judge_in_turn};
+use crate::in_turn::{effects_in_turn, judge_in_turn};
 use crate::links::fault_of_links;
 use crate::parts::{Child, Effects, Stop};
 use crate::sets::effects_of_links;
@@ -20,7 +20,7 @@ pub fn effects_of_block(
 ) -> Result<Effects, NoMemory>
     ensures { IfOk result (λ e. e ≡ block_effects order.now (enumerate_from 0 kids.now)) }
 {
-    if is_total(order, kids.len()) {
+    if order.is_total(kids.len()) {
         effects_in_turn(alloc, kids)
     } else {
         effects_of_links(alloc, order, kids)
@@ -51,7 +51,7 @@ pub fn judge_block(
 ) -> Result<Effects, Stop>
     ensures { Judges (block_fault block order.now (enumerate_from 0 kids.now)) (block_effects order.now (enumerate_from 0 kids.now)) result }
 {
-    if is_total(order, kids.len()) {
+    if order.is_total(kids.len()) {
         judge_in_turn(alloc, block, kids)
     } else {
         judge_links(alloc, block, order, kids)

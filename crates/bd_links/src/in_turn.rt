@@ -1,33 +1,12 @@
 // Kids that run in turn, each before all later ones: one pass in place of a test for each pair.
-ghost use Rattle.std.specs.Prelude.{◌≡◌, ◌↔◌, not, filter, find, IfOk, IsTrue};
+ghost use Rattle.std.specs.Prelude.{◌≡◌, not, filter, find, IfOk};
 ghost use Rattle.bd_base.specs.Facts.{has, plus};
-ghost use Rattle.bd_base.specs.Pairs.{total_order};
 ghost use Rattle.bd_links.specs.InTurn.{no_effects, turn, turns, turns_fault};
 ghost use Rattle.bd_links.specs.Judged.{Judges};
 
 use crate::parts::{Child, Effects, Fault, Stop};
-use crate::sets::{add_all, remove_all};
-use bd_base::{FactId, FactSet, NoMemory, NodeId, PairList};
+use bd_base::{FactId, FactSet, NoMemory, NodeId};
 use std::alloc::Global;
-
-/// Whether the order of n kids puts each before all later ones.
-pub fn is_total(order: &PairList, n: usize) -> bool
-    ensures { IsTrue result ↔ order.now ≡ total_order n }
-{
-    let mut i = 0;
-    let mut j = 1;
-    for p in order.iter() {
-        if j >= n || p.0 as usize != i || p.1 as usize != j {
-            return false;
-        }
-        j += 1;
-        if j == n {
-            i += 1;
-            j = i + 1;
-        }
-    }
-    j >= n
-}
 
 fn nothing() -> Effects
     ensures { result ≡ no_effects }
@@ -61,10 +40,10 @@ fn take_turn(alloc: Global, e: &mut Effects, kid: &Effects) -> Result<(), NoMemo
     ensures { IfOk result (λ _. e.new ≡ turn e.old kid.now) }
 {
     need_more(alloc, &mut e.need, &e.add, &kid.need)?;
-    remove_all(&mut e.add, &kid.del);
-    add_all(alloc, &mut e.add, &kid.add)?;
-    add_all(alloc, &mut e.del, &kid.del)?;
-    remove_all(&mut e.del, &kid.add);
+    e.add.minus(&kid.del);
+    e.add.join(alloc, &kid.add)?;
+    e.del.join(alloc, &kid.del)?;
+    e.del.minus(&kid.add);
     Ok(())
 }
 

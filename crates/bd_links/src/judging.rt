@@ -1,6 +1,7 @@
-ghost use Rattle.std.specs.Prelude.{◌≡◌, ◌↔◌, length, find, not, Option, None, IfOk, IsTrue};
+ghost use Rattle.std.specs.Prelude.{◌≡◌, ◌<◌, ◌↔◌, length, find, not, Option, None, IfOk, IfSome, IsTrue};
 ghost use Rattle.bd_base.specs.Facts.{has};
-ghost use Rattle.bd_links.specs.Faults.{holds_after, root_fault};
+ghost use Rattle.bd_task.specs.TaskView.{IsTask};
+ghost use Rattle.bd_links.specs.Faults.{holds_after, root_fault, fact_of};
 ghost use Rattle.bd_links.specs.Judged.{Judges};
 ghost use Rattle.bd_links.specs.Sound.{summary_of, child_of, are_below, first_fault, IsSound, RunsAlways};
 
@@ -74,10 +75,12 @@ fn fault_of_root(init: &FactSet, goal: &FactSet, e: &Effects) -> Option<Fault>
 
 fn fault_of_tree(alloc: Global, task: &Task, root: &Node) -> Result<Option<Fault>, NoMemory>
     requires { IsTrue (are_below (length task.now.actions) root.now) }
-    ensures { IfOk result (λ f. f ≡ first_fault task.now root.now) }
+    ensures first { IfOk result (λ f. f ≡ first_fault task.now root.now) }
+    ensures task { IsTask task.now }
 {
+    let init = task.init();
     match judge(alloc, task, root) {
-        Ok(child) => Ok(fault_of_root(task.init(), task.goal(), &child.effects)),
+        Ok(child) => Ok(fault_of_root(init, task.goal(), &child.effects)),
         Err(Stop::Found(fault)) => Ok(Some(fault)),
         Err(Stop::NoMemory) => Err(NoMemory),
     }
@@ -86,12 +89,13 @@ fn fault_of_tree(alloc: Global, task: &Task, root: &Node) -> Result<Option<Fault
 /// The link check: `None` exactly where the tree is sound, else the first fault. Kids are walked before
 /// their block and siblings in their listing; at a block the kid of the least position and then the least
 /// fact is told; then the least need of the root, and then the least goal fact. Each linearisation of a
-/// sound tree is valid.
+/// sound tree is valid, and the fact that a fault tells is one of the task's.
 pub fn check(alloc: Global, task: &Task, tree: &Tree) -> Result<Option<Fault>, NoMemory>
     requires { IsTrue (are_below (length task.now.actions) tree.now) }
     ensures first { IfOk result (λ f. f ≡ first_fault task.now tree.now) }
     ensures sound { IfOk result (λ f. (f ≡ None) ↔ IsSound task.now tree.now) }
     ensures runs { IfOk result (λ f. f ≡ None → RunsAlways task.now tree.now) }
+    ensures fact { IfOk result (λ f. IfSome f (λ fault. fact_of fault < length task.now.facts)) }
 {
     fault_of_tree(alloc, task, tree.root())
 }

@@ -16,7 +16,7 @@ pub fn chains_run()
     ensures { (task : TaskView) (list : List ℕ) → AreThere task list → IsSound task (chain_of list) ↔ IsValid task list }
 {}
 
-/// The chain of a list has the list's actions.
+/// Where the actions of a list are below a number, so are those of its chain.
 pub fn chains_fit()
     ensures { (n : ℕ) (list : List ℕ) → AllByRecursion (λ a. a < n) list → IsTrue (are_below n (chain_of list)) }
 {}

@@ -1,7 +1,6 @@
 // The effects of an action and of a block, as sets.
 ghost use Rattle.std.specs.Prelude.{◌≡◌, IfOk, Some};
 ghost use Rattle.std.specs.List.{enumerate_from};
-ghost use Rattle.bd_base.specs.Facts.{plus, minus};
 ghost use Rattle.bd_links.specs.Effects.{all_facts, block_effects, step_effects};
 
 use crate::links::{block_deletes, block_gives, block_needs};
@@ -21,31 +20,12 @@ pub fn action_effects(alloc: Global, action: &Action) -> Result<Effects, NoMemor
     })
 }
 
-/// Puts the facts of a set into another.
-pub fn add_all(alloc: Global, s: &mut FactSet, facts: &FactSet) -> Result<(), NoMemory>
-    ensures { IfOk result (λ _. s.new ≡ plus s.old facts.now) }
-{
-    for f in facts.iter() {
-        s.insert(alloc, f)?;
-    }
-    Ok(())
-}
-
-/// Takes the facts of a set out of another.
-pub fn remove_all(s: &mut FactSet, facts: &FactSet)
-    ensures { s.new ≡ minus s.old facts.now }
-{
-    for f in facts.iter() {
-        s.remove(f);
-    }
-}
-
 fn needs_of_all(alloc: Global, kids: &[Child]) -> Result<FactSet, NoMemory>
     ensures { IfOk result (λ s. s ≡ all_facts (λ e. e.need) (enumerate_from 0 kids.now)) }
 {
     let mut s = FactSet::new();
     for kid in kids {
-        add_all(alloc, &mut s, &kid.effects.need)?;
+        s.join(alloc, &kid.effects.need)?;
     }
     Ok(s)
 }
@@ -68,7 +48,7 @@ fn adds_of_all(alloc: Global, kids: &[Child]) -> Result<FactSet, NoMemory>
 {
     let mut s = FactSet::new();
     for kid in kids {
-        add_all(alloc, &mut s, &kid.effects.add)?;
+        s.join(alloc, &kid.effects.add)?;
     }
     Ok(s)
 }
@@ -91,7 +71,7 @@ fn dels_of_all(alloc: Global, kids: &[Child]) -> Result<FactSet, NoMemory>
 {
     let mut s = FactSet::new();
     for kid in kids {
-        add_all(alloc, &mut s, &kid.effects.del)?;
+        s.join(alloc, &kid.effects.del)?;
     }
     Ok(s)
 }

@@ -4,7 +4,7 @@ ghost use Rattle.bd_task.specs.TaskView.{IsAction, AreActions};
 ghost use Rattle.bd_tree.specs.declared.node.Node.{Step, Block};
 
 use crate::blocks::{effects_of_block, judge_block};
-use crate::in_turn::{effects_in_turn, is_total, judge_in_turn};
+use crate::in_turn::{effects_in_turn, judge_in_turn};
 use crate::links::fault_of_links;
 use crate::parts::{Child, Stop};
 use crate::sets::effects_of_links;
@@ -327,11 +327,11 @@ fn actions_of_another_task_dont_fit(rt: HostRuntime) -> Result<(), Fail> {
 fn total_orders_are_known(rt: HostRuntime) -> Result<(), Fail> {
     for n in 0..6u32 {
         let order = PairList::total(rt.alloc(), n)?;
-        assert!(rt; is_total(&order, n as usize));
-        assert!(rt; !is_total(&order, n as usize + 2));
+        assert!(rt; order.is_total(n as usize));
+        assert!(rt; !order.is_total(n as usize + 2));
     }
     let order = PairList::of(rt.alloc(), &[(0, 1), (1, 2)])?;
-    assert!(rt; !is_total(&order, 3));
+    assert!(rt; !order.is_total(3));
     Ok(())
 }
 

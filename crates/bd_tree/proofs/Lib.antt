@@ -1,6 +1,10 @@
 pub mod BoundLemmas
 pub mod ChainLemmas
+pub mod ConvexLemmas
+pub mod GapLemmas
 pub mod ListedLemmas
+pub mod MisfitLemmas
 pub mod NodeLemmas
 pub mod OrderLemmas
+pub mod SpanLemmas
 pub mod TreeLemmas

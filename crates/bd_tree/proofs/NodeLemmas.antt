@@ -6,7 +6,7 @@ use Rattle.bd_tree.specs.declared.node.Node.TheOpen.{Node-F}
 use Rattle.bd_tree.specs.declared.node.Node.TheViews.{roll-Node, rolls-Step, rolls-Block}
 use Rattle.bd_tree.specs.declared.node.Node.TheFolds.{fold-Node, fold-roll-Node, ind-Node, map-Node}
 use Rattle.bd_tree.specs.Order.{is_order}
-use Rattle.bd_tree.specs.Tree.{greatest, total, joined, depth_of, depth_step, steps_of, steps_step, nodes_of, nodes_step, ids_of, ids_step, listed_of, listed_step, Counted, counted_step, pairs_of, products}
+use Rattle.bd_tree.specs.Tree.{greatest, total, joined, depth_of, depth_step, steps_of, steps_step, nodes_of, nodes_step, id_of, id_step, ids_of, ids_step, listed_of, listed_step, Counted, counted_step, pairs_of, products}
 use Rattle.bd_tree.specs.WellFormed.{is_root, root_step, has_orders, orders_step}
 
 -- P holds of each kid
@@ -44,6 +44,9 @@ module _ (id a : ℕ) where
   pub ids_of-Step : ids_of (Step id a) ≡ id ∷ []
   ids_of-Step = ap ids_of (sym (rolls-Step id a)) ∙ fold-roll-Node (List ℕ) ids_step (Node-F.Step id a)
 
+  pub id_of-Step : id_of (Step id a) ≡ id
+  id_of-Step = ap id_of (sym (rolls-Step id a)) ∙ fold-roll-Node ℕ id_step (Node-F.Step id a)
+
   pub listed_of-Step : listed_of (Step id a) ≡ a ∷ []
   listed_of-Step = ap listed_of (sym (rolls-Step id a)) ∙ fold-roll-Node (List ℕ) listed_step (Node-F.Step id a)
 
@@ -62,6 +65,9 @@ module _ (id : ℕ) (kids : List Node) (order : List (ℕ × ℕ)) where
 
   pub ids_of-Block : ids_of (Block id kids order) ≡ id ∷ joined (map ids_of kids)
   ids_of-Block = ap ids_of (sym (rolls-Block id kids order)) ∙ fold-roll-Node (List ℕ) ids_step (Node-F.Block id kids order)
+
+  pub id_of-Block : id_of (Block id kids order) ≡ id
+  id_of-Block = ap id_of (sym (rolls-Block id kids order)) ∙ fold-roll-Node ℕ id_step (Node-F.Block id kids order)
 
   pub listed_of-Block : listed_of (Block id kids order) ≡ joined (map listed_of kids)
   listed_of-Block = ap listed_of (sym (rolls-Block id kids order)) ∙ fold-roll-Node (List ℕ) listed_step (Node-F.Block id kids order)

@@ -1,5 +1,7 @@
 pub mod Chain
+pub mod Convex
 pub mod Linearisation
+pub mod Misfit
 pub mod Order
 pub mod Tree
 pub mod WellFormed

@@ -1,7 +1,7 @@
 -- The order of a block over its kids: strictly rising pairs of positions in range, closed.
 use Rattle.std.specs.List.{list_all}
-use Rattle.std.specs.Prelude.{ℕ, Bool, true, not, ◌&&◌, ◌||◌, ◌==◌, nat_lt, List, [], ◌∷◌}
-use Rattle.bd_base.specs.Pairs.{is_before}
+use Rattle.std.specs.Prelude.{ℕ, Bool, true, ◌&&◌, ◌||◌, ◌==◌, nat_lt, List, [], ◌∷◌}
+use Rattle.bd_base.specs.Pairs.{is_closed}
 
 -- whether a pair comes before another: by the first position, and then by the second
 abbrev pub is_less : ℕ × ℕ → ℕ × ℕ → Bool
@@ -16,10 +16,10 @@ is_rising (p ∷ ps) = list_all (is_less p) ps && is_rising ps
 abbrev pub is_within : ℕ → ℕ × ℕ → Bool
 is_within n p = nat_lt p.0 p.1 && nat_lt p.1 n
 
--- whether i is before k wherever i is before some j and j is before k
-abbrev pub is_closed : List (ℕ × ℕ) → Bool
-is_closed order = list_all (λ p. list_all (λ q. not (p.1 == q.0) || is_before order p.0 q.1) order) order
-
 -- an order of n kids
 abbrev pub is_order : ℕ → List (ℕ × ℕ) → Bool
 is_order n order = list_all (is_within n) order && is_rising order && is_closed order
+
+-- whether each pair has its smaller position first
+abbrev pub have_rising_pairs : List (ℕ × ℕ) → Bool
+have_rising_pairs order = list_all (λ p. nat_lt p.0 p.1) order

@@ -88,7 +88,7 @@ abbrev pub pairs_of : Node → ℕ
 pairs_of node = (fold-Node Counted counted_step node).pairs
 
 -- the first that is there
-abbrev pub first_some : List (Option Node) → Option Node
+abbrev pub first_some : {A : Type 0} → List (Option A) → Option A
 first_some [] = None
 first_some (None ∷ rest) = first_some rest
 first_some (Some n ∷ rest) = Some n

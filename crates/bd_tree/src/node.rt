@@ -22,7 +22,7 @@ pub enum Node {
 }
 
 impl Node {
-    ghost use Rattle.std.specs.Prelude.{◌≡◌, ◌+◌, ◌++◌, ◌<◌, ◌^◌, true, IfOk, OnOk};
+    ghost use Rattle.std.specs.Prelude.{◌≡◌, ◌+◌, ◌++◌, ◌<◌, ◌^◌, ◌↔◌, true, IsTrue, IfOk, OnOk};
     ghost use Rattle.std.specs.Option.{option_copied};
     ghost use Rattle.bd_tree.specs.Tree.{id_of, ids_of, greatest, depth_of, steps_of, nodes_of, pairs_of, listed_of, find_in};
     ghost use Rattle.bd_tree.specs.WellFormed.{has_orders};
@@ -122,6 +122,25 @@ impl Node {
         Ok(())
     }
 
+    // Puts the ids at the end of the list, each node's before its kids'. After an error the list may have got a part
+    // of them.
+    pub(crate) fn ids_into(&self, ids: &mut Vec<NodeId>) -> Result<(), NoMemory>
+        ensures { OnOk result (ids.new.items ≡ ids.old.items ++ ids_of self.now) }
+    {
+        match self {
+            Node::Step { id, .. } => {
+                ids.push(*id)?;
+            }
+            Node::Block { id, kids, .. } => {
+                ids.push(*id)?;
+                for kid in kids.as_slice() {
+                    kid.ids_into(ids)?;
+                }
+            }
+        }
+        Ok(())
+    }
+
     /// The same node.
     pub fn try_copy(&self, alloc: Global) -> Result<Node, NoMemory>
         ensures { IfOk result (λ n. n ≡ self.now) }
@@ -142,6 +161,42 @@ impl Node {
                     order: order.try_copy(alloc)?,
                 })
             }
+        }
+    }
+
+    /// Whether the other is the same node: an equal step, or a block with the same id, equal kids and the same order.
+    pub fn same(&self, other: &Node) -> bool
+        ensures { IsTrue result ↔ (self.now ≡ other.now) }
+    {
+        match (self, other) {
+            (
+                Node::Step { id, action },
+                Node::Step {
+                    id: other_id,
+                    action: other_action,
+                },
+            ) => *id == *other_id && *action == *other_action,
+            (
+                Node::Block { id, kids, order },
+                Node::Block {
+                    id: other_id,
+                    kids: other_kids,
+                    order: other_order,
+                },
+            ) => {
+                if *id != *other_id || !same_pairs(order, other_order) {
+                    return false;
+                }
+                let mut rest = other_kids.as_slice();
+                for kid in kids.as_slice() {
+                    match rest.split_first() {
+                        Some((first, left)) if kid.same(first) => rest = left,
+                        _ => return false,
+                    }
+                }
+                rest.is_empty()
+            }
+            _ => false,
         }
     }
 
@@ -166,7 +221,7 @@ impl Node {
     }
 }
 
-ghost use Rattle.std.specs.Prelude.{◌≡◌, ◌<◌, ◌^◌, true, length, map};
+ghost use Rattle.std.specs.Prelude.{◌≡◌, ◌<◌, ◌^◌, ◌↔◌, true, IsTrue, length, map};
 ghost use Rattle.std.specs.List.{list_all};
 ghost use Rattle.bd_tree.specs.Order.{is_within};
 ghost use Rattle.bd_tree.specs.Tree.{steps_of, total, products};
@@ -183,4 +238,17 @@ fn ordered_pairs(kids: &[Node], order: &PairList) -> u64
         sum += kids[pair.0 as usize].steps() as u64 * kids[pair.1 as usize].steps() as u64;
     }
     sum
+}
+
+// Whether the two lists have the same pairs in the same places.
+fn same_pairs(first: &PairList, second: &PairList) -> bool
+    ensures { IsTrue result ↔ (first.now ≡ second.now) }
+{
+    let mut rest = second.iter();
+    for pair in first.iter() {
+        if rest.next() != Some(pair) {
+            return false;
+        }
+    }
+    rest.next().is_none()
 }

@@ -2,7 +2,7 @@ ghost use Rattle.std.specs.Prelude.{◌≡◌, ◌<◌, ◌^◌, [], ◌∷◌, 
 ghost use Rattle.bd_tree.specs.declared.node.Node.{Step, Block};
 ghost use Rattle.bd_tree.specs.Tree.{nodes_of};
 
-use crate::{Node, Tree};
+use crate::{Node, Tree, is_convex};
 use bd_base::{ActionId, FromItems, Items, NoMemory, NodeId, PairList};
 use std::alloc::Global;
 use std::test::Fail;
@@ -95,5 +95,51 @@ fn nodes_are_found_by_their_ids(rt: HostRuntime) -> Result<(), Fail> {
     assert!(rt; tree.find(NodeId(7)).is_none());
     assert!(rt; tree.find(NodeId(9)).is_none());
     assert_eq!(rt; tree.root().id(), NodeId(0));
+    Ok(())
+}
+
+#[test]
+fn kids_are_convex_where_no_other_kid_is_between(rt: HostRuntime) -> Result<(), Fail> {
+    let tree = three_steps(rt.alloc())?;
+    assert!(rt; is_convex(tree.root(), &[NodeId(1), NodeId(2)]));
+    assert!(rt; is_convex(tree.root(), &[NodeId(3), NodeId(2)]));
+    assert!(rt; is_convex(tree.root(), &[]));
+    assert!(rt; !is_convex(tree.root(), &[NodeId(1), NodeId(3)]));
+    Ok(())
+}
+
+// The order may be one of no tree: here the first kid is after the last and before the second.
+#[test]
+fn a_kid_parts_later_members_of_an_order_that_falls(rt: HostRuntime) -> Result<(), Fail> {
+    let mut kids = Vec::new(rt.alloc());
+    for id in 1..4 {
+        kids.push(step(id, 5))?;
+    }
+    let node = Node::Block {
+        id: NodeId(0),
+        kids: Items::of(kids),
+        order: PairList::of(rt.alloc(), &[(2, 0), (0, 1)])?,
+    };
+    assert!(rt; !is_convex(&node, &[NodeId(2), NodeId(3)]));
+    assert!(rt; is_convex(&node, &[NodeId(1), NodeId(3)]));
+    Ok(())
+}
+
+#[test]
+fn a_node_is_the_same_as_its_copy(rt: HostRuntime) -> Result<(), Fail> {
+    let node = two_blocks(rt.alloc())?;
+    assert!(rt; node.same(&node.try_copy(rt.alloc())?));
+    let other = three_steps(rt.alloc())?;
+    assert!(rt; !node.same(other.root()));
+    assert!(rt; !other.root().same(&node));
+    Ok(())
+}
+
+#[test]
+fn a_block_with_another_order_is_another(rt: HostRuntime) -> Result<(), Fail> {
+    let node = block(rt.alloc(), 1, step(2, 5), step(3, 6), &[])?;
+    let forged = block(rt.alloc(), 1, step(2, 5), step(3, 6), &[(0, 1)])?;
+    assert!(rt; !node.same(&forged));
+    assert!(rt; !forged.same(&node));
     Ok(())
 }

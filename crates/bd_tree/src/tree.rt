@@ -1,6 +1,7 @@
-ghost use Rattle.std.specs.Prelude.{◌≡◌, ◌+◌, ◌<◌, ◌≤◌, ◌^◌, ◌↔◌, false, length, IfOk};
+ghost use Rattle.std.specs.Prelude.{◌≡◌, ◌+◌, ◌<◌, ◌≤◌, ◌^◌, ◌↔◌, None, false, length, IfOk};
 
-use crate::Node;
+use crate::misfit::first_misfit;
+use crate::{Misfit, Node};
 use bd_base::{ActList, ActionId, FromItems, Items, NoMemory, NodeId, PairList};
 use std::alloc::Global;
 use std::marker::Model;
@@ -31,8 +32,23 @@ impl Tree {
     ghost use Rattle.bd_base.specs.Facts.{has};
     ghost use Rattle.bd_tree.specs.Chain.{chain_of};
     ghost use Rattle.bd_tree.specs.Linearisation.{IsLinearisation};
+    ghost use Rattle.bd_tree.specs.Misfit.{first_misfit, Shapes};
     ghost use Rattle.bd_tree.specs.Tree.{ids_of, greatest, depth_of, steps_of, nodes_of, pairs_of, listed_of, find_in};
     ghost use Rattle.bd_tree.specs.WellFormed.{IsWellFormed};
+
+    /// The tree with this root, or the first misfit: `Root`, `Twice`, `Order` and `TooDeep` are looked for in this
+    /// order, and `NoMemory` may come at any place. It is a tree exactly where the root is well formed and has at
+    /// most 64 levels.
+    pub fn new(alloc: Global, root: Node) -> Result<Tree, Misfit>
+        requires { nodes_of root < 2 ^ 32 }
+        ensures answer { Shapes root result }
+        ensures exact { (first_misfit root ≡ None) ↔ (IsWellFormed root × (depth_of root ≤ 64)) }
+    {
+        match first_misfit(alloc, &root)? {
+            None => Ok(Tree::of(root)),
+            Some(misfit) => Err(misfit),
+        }
+    }
 
     /// The tree with this root, which the caller has shaped so that it is well formed. Nothing is tested.
     pub fn of(root: Node) -> Tree

@@ -1,0 +1,15 @@
+use Rattle.std.proofs.Common.{◌≡◌, Some, sym, ap, ◌∙◌}
+use Rattle.bd_tree.specs.declared.node.Node.{Block}
+use Rattle.bd_tree.specs.Tree.{find_in}
+use Rattle.bd_merge.proofs.StandLemmas.{judged}
+use Rattle.bd_merge.proofs.standing.stands.Goals as goal
+
+pub returns-then-are_together : goal.returns-then-are_together
+returns-then-are_together c =
+    let found : find_in c.args.window.now.block c.args.tree.now ≡ Some (Block c.in-Block.id c.in-Block.kids c.in-Block.order) = sym c.in-Some.ensures.found ∙ ap Some c.in-Block.is in
+    judged c.args.tree.now c.args.window.now _ _ _ found _ _ _ _ c.as_slice-kids.ensures c.as_slice-carried.ensures (c.are_kids.ensures.0 (cc)) c.of_nodes.ensures (sym c.are_together.ensures ∙ c.if-are_together.true)
+
+pub returns-else-are_together : goal.returns-else-are_together
+returns-else-are_together c =
+    let found : find_in c.args.window.now.block c.args.tree.now ≡ Some (Block c.in-Block.id c.in-Block.kids c.in-Block.order) = sym c.in-Some.ensures.found ∙ ap Some c.in-Block.is in
+    judged c.args.tree.now c.args.window.now _ _ _ found _ _ _ _ c.as_slice-kids.ensures c.as_slice-carried.ensures (c.are_kids.ensures.0 (cc)) c.of_nodes.ensures (sym c.are_together.ensures ∙ c.if-are_together.false)

@@ -1,0 +1,3 @@
+pub mod FrontEnd
+pub mod Merged
+pub mod Stands

@@ -1,0 +1,279 @@
+ghost use Rattle.std.specs.Prelude.{◌≡◌, ◌+◌, ◌<◌, ◌≤◌, ◌^◌, ◌++◌, length, map, IfOk, IsTrue, OnOk};
+ghost use Rattle.std.specs.List.{enumerate_from};
+ghost use Rattle.bd_base.specs.Facts.{has};
+ghost use Rattle.bd_base.specs.Pairs.{total_order};
+ghost use Rattle.bd_tree.specs.Chain.{steps_from};
+ghost use Rattle.bd_tree.specs.Tree.{id_of, ids_of, greatest, nodes_of, steps_of, total};
+ghost use Rattle.bd_merge.specs.Stands.{Stands};
+ghost use Rattle.bd_merge.specs.FrontEnd.{IsFrontEnd};
+ghost use Rattle.bd_merge.specs.Merged.{goes_first, is_front, is_back, fronts, backs, is_ordered, is_kept, merged_order, merged_block, merged, Exchanges};
+
+use crate::{Found, Lean, Window};
+use bd_base::{ActionId, FromItems, Items, NoMemory, NodeId, PairList};
+use bd_tree::{Members, Node, Tree, comes_before, is_after_member, is_before_member, span_of};
+use std::alloc::Global;
+
+/// What stands at a position of a merged block: a kid in front of the new steps, a new step, or a kid behind
+/// them. A kid is told by its old position.
+#[derive(Clone, Copy, Debug, PartialEq, Eq)]
+pub enum Place {
+    Front(usize),
+    New,
+    Back(usize),
+}
+
+/// The tree in which the window's block has steps of the list, with ids from `next` on, in the place of the carried
+/// kids. By the window's lean the other kids go in front of them or behind, as they were listed and ordered.
+pub fn merged(
+    alloc: Global,
+    tree: &Tree,
+    window: &Window,
+    list: &[ActionId],
+    next: NodeId,
+) -> Result<Tree, NoMemory>
+    requires stands { Stands tree.now window.now Found.At }
+    requires fresh { greatest (ids_of tree.now) < next }
+    requires room { next < 2 ^ 63 }
+    requires few { nodes_of tree.now + length list.now < 2 ^ 32 }
+    ensures tree { IfOk result (λ t. t ≡ merged tree.now window.now list.now next) }
+    ensures measures { IfOk result (λ t. Exchanges tree.now window.now list.now next t) }
+    ensures steps { IfOk result (λ t. steps_of t + total (map steps_of window.now.kids) ≡ steps_of tree.now + length list.now) }
+    ensures nodes { IfOk result (λ t. nodes_of t ≤ nodes_of tree.now + length list.now) }
+    ensures top { IfOk result (λ t. greatest (ids_of t) < next + length list.now) }
+{
+    Ok(Tree::of(new_node(alloc, window, list, next, tree.root())?))
+}
+
+// Where each kid is before all later ones, the position that the kids in front of the window stand below.
+fn front_end(window: &Window, order: &PairList, kids: &[Node]) -> Option<usize>
+    requires { length kids.now < 2 ^ 32 }
+    ensures { IsFrontEnd window.now order.now kids.now result }
+{
+    if !order.is_total(kids.len()) {
+        return None;
+    }
+    let span = span_of(kids, &Members::of_nodes(window.kids.as_slice()));
+    match window.lean {
+        Lean::Early => Some(span.first + 1),
+        Lean::Late => Some(span.past.saturating_sub(1)),
+    }
+}
+
+// Whether the kid at the position, if it is outside the window, goes in front of it, told by the order.
+fn is_ordered_first(window: &Window, order: &PairList, kids: &[Node], at: usize) -> bool
+    ensures { result ≡ goes_first window.now.lean order.now (map id_of window.now.kids) (enumerate_from 0 kids.now) at }
+{
+    let members = Members::of_nodes(window.kids.as_slice());
+    match window.lean {
+        Lean::Early => !is_after_member(order, kids, &members, at),
+        Lean::Late => is_before_member(order, kids, &members, at),
+    }
+}
+
+// The same, told by the end of the kids in front where it is known.
+fn is_first(window: &Window, order: &PairList, kids: &[Node], end: Option<usize>, at: usize) -> bool
+    requires end { IsFrontEnd window.now order.now kids.now end }
+    requires within { at < length kids.now }
+    ensures { result ≡ goes_first window.now.lean order.now (map id_of window.now.kids) (enumerate_from 0 kids.now) at }
+{
+    match end {
+        Some(end) => at < end,
+        None => is_ordered_first(window, order, kids, at),
+    }
+}
+
+fn is_carried(window: &Window, kid: &Node) -> bool
+    ensures { result ≡ has (map id_of window.now.kids) (id_of kid.now) }
+{
+    Members::of_nodes(window.kids.as_slice()).has(kid.id())
+}
+
+// Puts copies of the kids in front at the end of the lists. After an error the lists may have got a part of them.
+fn put_fronts(
+    alloc: Global,
+    window: &Window,
+    order: &PairList,
+    kids: &[Node],
+    end: Option<usize>,
+    copies: &mut Vec<Node>,
+    places: &mut Vec<Place>,
+) -> Result<(), NoMemory>
+    requires { IsFrontEnd window.now order.now kids.now end }
+    ensures kids { OnOk result (copies.new.items ≡ copies.old.items ++ map (λ k. k.1) (fronts window.now order.now (enumerate_from 0 kids.now))) }
+    ensures places { OnOk result (places.new.items ≡ places.old.items ++ map (λ k. Place.Front k.0) (fronts window.now order.now (enumerate_from 0 kids.now))) }
+{
+    let mut at = 0;
+    for kid in kids {
+        if !is_carried(window, kid) && is_first(window, order, kids, end, at) {
+            copies.push(kid.try_copy(alloc)?)?;
+            places.push(Place::Front(at))?;
+        }
+        at += 1;
+    }
+    Ok(())
+}
+
+// The same for the kids behind.
+fn put_backs(
+    alloc: Global,
+    window: &Window,
+    order: &PairList,
+    kids: &[Node],
+    end: Option<usize>,
+    copies: &mut Vec<Node>,
+    places: &mut Vec<Place>,
+) -> Result<(), NoMemory>
+    requires { IsFrontEnd window.now order.now kids.now end }
+    ensures kids { OnOk result (copies.new.items ≡ copies.old.items ++ map (λ k. k.1) (backs window.now order.now (enumerate_from 0 kids.now))) }
+    ensures places { OnOk result (places.new.items ≡ places.old.items ++ map (λ k. Place.Back k.0) (backs window.now order.now (enumerate_from 0 kids.now))) }
+{
+    let mut at = 0;
+    for kid in kids {
+        if !is_carried(window, kid) && !is_first(window, order, kids, end, at) {
+            copies.push(kid.try_copy(alloc)?)?;
+            places.push(Place::Back(at))?;
+        }
+        at += 1;
+    }
+    Ok(())
+}
+
+// Puts steps of the list's actions, with ids from the number on.
+fn put_steps(
+    list: &[ActionId],
+    next: NodeId,
+    copies: &mut Vec<Node>,
+    places: &mut Vec<Place>,
+) -> Result<(), NoMemory>
+    requires { next + length list.now < 2 ^ 64 }
+    ensures kids { OnOk result (copies.new.items ≡ copies.old.items ++ steps_from next list.now) }
+    ensures places { OnOk result (places.new.items ≡ places.old.items ++ map (λ a. Place.New) list.now) }
+{
+    let mut id = next.0;
+    for action in list {
+        copies.push(Node::Step {
+            id: NodeId(id),
+            action: *action,
+        })?;
+        places.push(Place::New)?;
+        id += 1;
+    }
+    Ok(())
+}
+
+// Whether what stands earlier in the new listing is before what stands later.
+fn is_before_later(order: &PairList, first: Place, second: Place) -> bool
+    ensures { result ≡ is_ordered order.now first second }
+{
+    match first {
+        Place::Front(i) => match second {
+            Place::Front(j) => comes_before(order, i, j),
+            _ => true,
+        },
+        Place::New => match second {
+            Place::Front(_) => false,
+            _ => true,
+        },
+        Place::Back(i) => match second {
+            Place::Back(j) => comes_before(order, i, j),
+            _ => false,
+        },
+    }
+}
+
+fn is_kept_pair(order: &PairList, places: &[Place], pair: (u32, u32)) -> bool
+    ensures { result ≡ is_kept order.now places.now pair }
+{
+    match places.get(pair.0 as usize) {
+        None => false,
+        Some(first) => match places.get(pair.1 as usize) {
+            None => false,
+            Some(second) => is_before_later(order, *first, *second),
+        },
+    }
+}
+
+// The new order; where it is known that every pair is kept, none is asked for.
+fn new_order(
+    alloc: Global,
+    order: &PairList,
+    places: &[Place],
+    keeps_all: bool,
+) -> Result<PairList, NoMemory>
+    requires few { length places.now < 2 ^ 32 }
+    requires all { IsTrue keeps_all → merged_order order.now places.now ≡ total_order (length places.now) }
+    ensures { IfOk result (λ o. o ≡ merged_order order.now places.now) }
+{
+    let all = PairList::total(alloc, places.len() as u32)?;
+    if keeps_all {
+        return Ok(all);
+    }
+    let mut kept = Vec::new(alloc);
+    for pair in all.iter() {
+        if is_kept_pair(order, places, pair) {
+            kept.push(pair)?;
+        }
+    }
+    PairList::of(alloc, &kept)
+}
+
+// The window's block, where it has these kids and this order.
+fn new_block(
+    alloc: Global,
+    window: &Window,
+    list: &[ActionId],
+    next: NodeId,
+    kids: &[Node],
+    order: &PairList,
+) -> Result<Node, NoMemory>
+    requires room { next < 2 ^ 63 }
+    requires few { length kids.now + length list.now < 2 ^ 32 }
+    ensures { IfOk result (λ n. n ≡ merged_block window.now list.now next window.now.block kids.now order.now) }
+{
+    let mut copies = Vec::new(alloc);
+    let mut places = Vec::new(alloc);
+    let end = front_end(window, order, kids);
+    put_fronts(alloc, window, order, kids, end, &mut copies, &mut places)?;
+    put_steps(list, next, &mut copies, &mut places)?;
+    put_backs(alloc, window, order, kids, end, &mut copies, &mut places)?;
+    let order = new_order(alloc, order, &places, end.is_some())?;
+    Ok(Node::Block {
+        id: window.block,
+        kids: Items::of(copies),
+        order,
+    })
+}
+
+// The node in which the window's block is merged with the list.
+fn new_node(
+    alloc: Global,
+    window: &Window,
+    list: &[ActionId],
+    next: NodeId,
+    node: &Node,
+) -> Result<Node, NoMemory>
+    requires room { next < 2 ^ 63 }
+    requires few { nodes_of node.now + length list.now < 2 ^ 32 }
+    ensures { IfOk result (λ n. n ≡ merged node.now window.now list.now next) }
+{
+    match node {
+        Node::Step { id, action } => Ok(Node::Step {
+            id: *id,
+            action: *action,
+        }),
+        Node::Block { id, kids, order } => {
+            if *id == window.block {
+                return new_block(alloc, window, list, next, kids.as_slice(), order);
+            }
+            let mut copies = Vec::new(alloc);
+            for kid in kids.as_slice() {
+                copies.push(new_node(alloc, window, list, next, kid)?)?;
+            }
+            Ok(Node::Block {
+                id: *id,
+                kids: Items::of(copies),
+                order: order.try_copy(alloc)?,
+            })
+        }
+    }
+}
