@@ -1,0 +1,4 @@
+pub mod CoreLemmas
+pub mod LawLemmas
+pub mod MeasureLemmas
+pub mod RangeLemmas

@@ -1,12 +1,15 @@
-ghost use Rattle.std.specs.Prelude.{◌≡◌, ◌+◌, ◌<◌, ◌≤◌, ◌^◌, length, count_by, IsTrue};
-ghost use Rattle.bd_links.specs.Sound.{are_below, first_fault, IsSound, RunsAlways};
+ghost use Rattle.std.specs.Prelude.{◌≡◌, ◌+◌, ◌<◌, ◌≤◌, ◌^◌, length, count_by, take, IsTrue, IfErr, IfOk, OnOk, OnErr};
+ghost use Rattle.bd_links.specs.Sound.{are_below};
 ghost use Rattle.bd_tree.specs.Tree.{depth_of, steps_of, nodes_of, ids_of, greatest};
-ghost use Rattle.plan_core.specs.Core.{Begins, is_closed, is_due, is_replacement};
+ghost use Rattle.plan_core.specs.Core.{Begins, accepted, opened, replay, is_closed, is_due, is_replacement};
+ghost use Rattle.plan_core.specs.Law.{IsCore, IsLawful, IsPrintable, tree_at};
+ghost use Rattle.plan_core.specs.Replies.{IsLent, Replies, TellsFact};
 ghost use Rattle.plan_core.specs.declared.judge.BeginErr.TheVariants.{NoMemory as OutOfMemory};
 
-use crate::Offer;
+use crate::{Offer, Refusal};
 use bd_base::{NoMemory, NodeId};
 use bd_links::{Fault, check};
+use bd_merge::merged;
 use bd_task::Task;
 use bd_tree::Tree;
 use std::alloc::Global;
@@ -39,14 +42,17 @@ pub struct Core {
     start: Tree,
     history: Vec<Offer>,
     tree: Tree,
-    next: NodeId,
+    next: u64,
     stop: u32,
+    replaced: u64,
+    due: bool,
 }
 
 impl Model for Core {
     ghost use Rattle.std.specs.Coded.{codes};
     ghost use Rattle.bd_tree.specs.contracts.node.Node as node;
-    ghost use Rattle.plan_core.specs.Core.{CoreView, IsCore};
+    ghost use Rattle.plan_core.specs.Core.{CoreView};
+    ghost use Rattle.plan_core.specs.Law.{Keeps};
 
     ghost Value = { CoreView };
 
@@ -54,7 +60,7 @@ impl Model for Core {
 
     ghost view = { λ c. record { task = c.task; start = c.start; history = c.history.items; tree = c.tree; next = c.next; stop = c.stop } };
 
-    ghost invariant = { λ c. IsCore (record { task = c.task; start = c.start; history = c.history.items; tree = c.tree; next = c.next; stop = c.stop }) };
+    ghost invariant = { λ c. Keeps (record { task = c.task; start = c.start; history = c.history.items; tree = c.tree; next = c.next; stop = c.stop }) c.replaced c.due };
 }
 
 impl Core {
@@ -73,7 +79,7 @@ impl Core {
             return Err(BeginErr::Unsound(fault));
         }
         let tree = start.try_copy(alloc)?;
-        let next = NodeId(tree.top_id().0 + 1);
+        let next = start.root().top_id().0 + 1;
         Ok(Core {
             task,
             start,
@@ -81,6 +87,8 @@ impl Core {
             tree,
             next,
             stop,
+            replaced: 0,
+            due: false,
         })
     }
 
@@ -91,10 +99,12 @@ impl Core {
         &self.task
     }
 
-    /// The tree: each of its linearisations is valid.
+    /// The tree: the history is legal from the start tree and replays to it, at each place each linearisation of
+    /// the tree there is valid, and the cost never rose.
     pub fn tree(&self) -> &Tree
         ensures tree { result.now ≡ self.now.tree }
-        ensures sound { IsSound self.now.task self.now.tree }
+        ensures lawful { IsLawful self.now }
+        ensures printable { IsPrintable self.now.task self.now.tree }
     {
         &self.tree
     }
@@ -110,22 +120,88 @@ impl Core {
     pub fn closed(&self) -> bool
         ensures { result ≡ is_closed self.now.stop self.now.history }
     {
-        replacements(&self.history) >= self.stop as usize || self.history.len() >= 16_777_216
+        self.replaced >= self.stop as u64 || self.history.len() >= 16_777_216
     }
 
     /// Whether a replacement was accepted since the last rebuild or the start.
     pub fn due(&self) -> bool
         ensures { result ≡ is_due self.now.history }
     {
-        is_due(&self.history)
+        self.due
     }
 
-    /// The task, the start tree, the history and the tree. It takes no memory.
+    // How many entries of the history are replacements.
+    pub(crate) fn replaced(&self) -> u64
+        ensures { result ≡ count_by is_replacement self.now.history }
+    {
+        self.replaced
+    }
+
+    // The id that the next new node gets.
+    pub(crate) fn next(&self) -> NodeId
+        ensures { result ≡ self.now.next }
+    {
+        NodeId(self.next)
+    }
+
+    // The start tree.
+    pub(crate) fn start(&self) -> &Tree
+        ensures { result.now ≡ self.now.start }
+    {
+        &self.start
+    }
+
+    // What every core keeps.
+    pub(crate) fn keeps(&self)
+        ensures { IsCore self.now }
+    {
+        let _ = &self.task;
+    }
+
+    /// Judges an offer by itself, and takes it where no refusal has its condition: then it is the last entry of
+    /// the history, and the answer is its place, from 1. A refused offer changes nothing.
+    pub fn offer(&mut self, alloc: Global, offer: &Offer) -> Result<u64, Refusal>
+        requires lent { IsLent offer.now }
+        ensures reply { Replies self.old offer.now result }
+        ensures fact { IfErr result (λ why. TellsFact (length self.old.task.facts) why) }
+        ensures ok { OnOk result (self.new ≡ accepted offer.now self.old) }
+        ensures err { OnErr result (self.new ≡ self.old) }
+    {
+        let (window, actions) = offer.replacement();
+        let tree = self.judge_replacement(alloc, window, actions)?;
+        self.history.push(offer.try_copy(alloc)?)?;
+        self.tree = tree;
+        self.next += actions.len() as u64;
+        self.replaced += 1;
+        self.due = true;
+        Ok(self.history.len() as u64)
+    }
+
+    /// The tree after the first `place` entries of the history.
+    pub fn at(&self, alloc: Global, place: u64) -> Result<Tree, NoMemory>
+        requires { place ≤ length self.now.history }
+        ensures { IfOk result (λ t. t ≡ tree_at self.now place) }
+    {
+        self.keeps();
+        let mut tree = self.start().try_copy(alloc)?;
+        let mut next = NodeId(self.start().root().top_id().0 + 1);
+        for offer in &self.history()[..place as usize] {
+            let (window, actions) = offer.replacement();
+            tree = merged(alloc, &tree, window, actions, next)?;
+            next = NodeId(next.0 + actions.len() as u64);
+        }
+        Ok(tree)
+    }
+
+    /// The task, the start tree, the history and the tree, of which all holds that `tree` tells. It takes no memory.
     pub fn into_parts(self) -> (Task, Tree, Vec<Offer>, Tree)
         ensures task { result.0 ≡ self.task }
         ensures start { result.1 ≡ self.start }
         ensures history { result.2.items ≡ self.history }
         ensures tree { result.3 ≡ self.tree }
+        ensures lawful { IsLawful self }
+        ensures start_printable { IsPrintable self.task self.start }
+        ensures tree_printable { IsPrintable self.task self.tree }
     {
         let Core {
             task,
@@ -134,6 +210,8 @@ impl Core {
             tree,
             next: _,
             stop: _,
+            replaced: _,
+            due: _,
         } = self;
         (task, start, history, tree)
     }
@@ -150,17 +228,4 @@ pub fn replacements(history: &[Offer]) -> usize
         }
     }
     count
-}
-
-// Whether a replacement came since the last rebuild or the start.
-fn is_due(history: &[Offer]) -> bool
-    ensures { result ≡ is_due history.now }
-{
-    let mut due = false;
-    for offer in history {
-        match offer {
-            Offer::Replace { .. } => due = true,
-        }
-    }
-    due
 }
