@@ -1,46 +1,31 @@
 -- A script within the limits meets the conditions of a task, and its plan is in range.
-use Rattle.std.proofs.Common.{◌≡◌, ℕ, ◌<◌, ◌≤◌, Bool, true, false, cond, not, eqb, nat_lt, List, [], ◌∷◌, Some, None, map, length, refl, sym, ap, subst, ◌∙◌, arith}
-use Rattle.std.specs.List.{list_all}
+use Rattle.std.proofs.Common.{◌≡◌, ℕ, ◌<◌, ◌≤◌, Bool, true, false, cond, not, eqb, nat_lt, List, [], ◌∷◌, Option, Some, None, map, length, refl, sym, ap, subst, ◌∙◌, arith}
+use Rattle.std.specs.List.{list_all, All}
+use Rattle.std.proofs.lemmas.List.Elements.{All-nil, All-cons}
 use Rattle.std.specs.Str.{bytes_eq}
 use Rattle.std.proofs.lemmas.Bool.{or_left, or_right, both_ways}
 use Rattle.std.proofs.lemmas.List.Quantifiers.{position-Some}
-use Rattle.bd_base.specs.Facts.{has, insert_fact, remove_fact, plus, minus}
+use Rattle.bd_base.specs.Facts.{has, minus}
 use Rattle.bd_base.specs.declared.text_err.Limit.{Limit}
 use Rattle.bd_base.proofs.FactLemmas.{has-minus}
+use Rattle.bd_task.proofs.BelowLemmas.{below-plus, below-minus}
 use Rattle.bd_task.specs.declared.ground.Action.{Action}
 use Rattle.bd_task.specs.TaskView.{AreBelow, IsTask, AreActions}
 use Rattle.bd_task.specs.TaskView.{IsAction as MeetsTask}
+use Rattle.bd_tree.specs.Tree.{listed_of, listed_step}
+use Rattle.bd_tree.specs.declared.node.Node.{Node, Step}
+use Rattle.bd_tree.specs.declared.node.Node.TheFolds.{fold-roll-Node}
+use Rattle.bd_tree.specs.declared.node.Node.TheOpen.{Node-F}
+use Rattle.bd_tree.specs.declared.node.Node.TheViews.{rolls-Step}
+use Rattle.plan_core.specs.declared.offer.Offer.{Offer}
 use Rattle.script_text.specs.declared.script.Script.{Script}
+use Rattle.script_text.specs.Lines.{number_of}
+use Rattle.script_text.specs.Range.{HasActionsBelow}
 use Rattle.script_text.specs.Limits.{over_of}
-use Rattle.script_text.specs.Spells.{Listed, AreNew, ArePlaces, IsSetOf, IsAction, AreActionsOf, names_of, SpellsScript}
+use Rattle.script_text.specs.Spells.{Listed, Carried, Replacement, AreNew, ArePlaces, IsSetOf, IsAction, AreActionsOf, names_of, IsStop, IsStep, AreSteps, IsReplacement, AreReplacements, SpellsScript}
 use Rattle.script_text.proofs.LineLemmas.{lt_false}
 
 -- numbers below a bound
-
-below-insert : (n f : ℕ) (s : List ℕ) → f < n → AreBelow n s → AreBelow n (insert_fact f s)
-below-insert n f [] lt b = (lt, tt)
-below-insert n f (x ∷ s) lt b = by_test (nat_lt f x) (nat_lt x f) (below-insert n f s lt b.1)
-  where
-    by_test : (t u : Bool) → AreBelow n (insert_fact f s) → AreBelow n (cond t (f ∷ x ∷ s) (x ∷ cond u (insert_fact f s) s))
-    by_test true u h = (lt, b)
-    by_test false true h = (b.0, h)
-    by_test false false h = b
-
-below-remove : (n f : ℕ) (s : List ℕ) → AreBelow n s → AreBelow n (remove_fact f s)
-below-remove n f [] b = tt
-below-remove n f (x ∷ s) b = by_test (not (eqb x f)) (below-remove n f s b.1)
-  where
-    by_test : (t : Bool) → AreBelow n (remove_fact f s) → AreBelow n (cond t (x ∷ remove_fact f s) (remove_fact f s))
-    by_test true h = (b.0, h)
-    by_test false h = h
-
-below-plus : (n : ℕ) (s fs : List ℕ) → AreBelow n s → AreBelow n fs → AreBelow n (plus s fs)
-below-plus n s [] b c = b
-below-plus n s (f ∷ fs) b c = below-plus n (insert_fact f s) fs (below-insert n f s c.0 b) c.1
-
-below-minus : (n : ℕ) (s fs : List ℕ) → AreBelow n s → AreBelow n (minus s fs)
-below-minus n s [] b = b
-below-minus n s (f ∷ fs) b = below-minus n (remove_fact f s) fs (below-remove n f s b)
 
 pub places_below : (declared names : List (List ℕ)) (places : List ℕ) → ArePlaces declared names places → AreBelow (length declared) places
 places_below declared [] [] h = tt
@@ -132,6 +117,51 @@ pub plan_below : (text : List ℕ) (s : Script) → SpellsScript text s → AreB
 plan_below text s h =
     let P : ℕ → Type 0 = λ n. AreBelow n s.plan in
     subst P (length-names h.source.facts h.source.actions s.task.actions h.actions) (places_below (names_of h.source.actions) h.source.plan s.plan h.plan)
+
+-- the stop and the offers
+
+pub stop_fits : (digits : Option (List ℕ)) (stop : ℕ) → IsStop digits stop → (0 < stop) × (stop ≤ 1_000_000)
+stop_fits None stop h = (omega (arith, h), omega (arith, h))
+stop_fits (Some digits) stop h = (omega (arith, h.1, h.3), omega (arith, h.2, h.3))
+
+listed-Step : (id a : ℕ) → listed_of (Step id a) ≡ a ∷ []
+listed-Step id a = ap listed_of (sym (rolls-Step id a)) ∙ fold-roll-Node (List ℕ) listed_step (Node-F.Step id a)
+
+abbrev IsBelow : ℕ → Node → Type 0
+IsBelow n node = All (λ a. a < n) (listed_of node)
+
+step_fits : (declared : List (List ℕ)) (k : Carried) (node : Node) → IsStep declared k node → IsBelow (length declared) node
+step_fits declared k node h =
+    let P : List ℕ → Type 0 = All (λ a. a < length declared) in
+    let one : listed_of node ≡ h.action ∷ [] = ap listed_of h.whole ∙ listed-Step (number_of k.id) h.action in
+    let below : h.action < length declared = (position-Some (λ m. bytes_eq k.name m) declared h.action k.name h.known).0 in
+    subst P (sym one) (All-cons (λ a. a < length declared) h.action [] below (All-nil (λ a. a < length declared)))
+
+steps_fit : (declared : List (List ℕ)) (ks : List Carried) (nodes : List Node) → AreSteps declared ks nodes → All (IsBelow (length declared)) nodes
+steps_fit declared [] [] h = All-nil (IsBelow (length declared))
+steps_fit declared [] (n ∷ nodes) h = absurd h
+steps_fit declared (k ∷ ks) [] h = absurd h
+steps_fit declared (k ∷ ks) (n ∷ nodes) h = All-cons (IsBelow (length declared)) n nodes (step_fits declared k n h.0) (steps_fit declared ks nodes h.1)
+
+pub all_below : (n : ℕ) (xs : List ℕ) → AreBelow n xs → All (λ a. a < n) xs
+all_below n [] b = All-nil (λ a. a < n)
+all_below n (x ∷ xs) b = All-cons (λ a. a < n) x xs b.0 (all_below n xs b.1)
+
+offer_fits : (declared : List (List ℕ)) (r : Replacement) (o : Offer) → IsReplacement declared r o → HasActionsBelow (length declared) o
+offer_fits declared r o h =
+    let P : Offer → Type 0 = HasActionsBelow (length declared) in
+    subst P (sym h.whole) (steps_fit declared r.kids h.kids h.carried, all_below (length declared) h.actions (places_below declared r.names h.actions h.list))
+
+offers_fit : (declared : List (List ℕ)) (rs : List Replacement) (os : List Offer) → AreReplacements declared rs os → All (λ o. HasActionsBelow (length declared) o) os
+offers_fit declared [] [] h = All-nil (λ o. HasActionsBelow (length declared) o)
+offers_fit declared [] (o ∷ os) h = absurd h
+offers_fit declared (r ∷ rs) [] h = absurd h
+offers_fit declared (r ∷ rs) (o ∷ os) h = All-cons (λ x. HasActionsBelow (length declared) x) o os (offer_fits declared r o h.0) (offers_fit declared rs os h.1)
+
+pub offers_below : (text : List ℕ) (s : Script) → SpellsScript text s → All (λ o. HasActionsBelow (length s.task.actions) o) s.offers
+offers_below text s h =
+    let P : ℕ → Type 0 = λ n. All (λ o. HasActionsBelow n o) s.offers in
+    subst P (length-names h.source.facts h.source.actions s.task.actions h.actions) (offers_fit (names_of h.source.actions) h.source.replacements s.offers h.offers)
 
 pub names_new : (text : List ℕ) (s : Script) → SpellsScript text s → AreNew [] s.task.facts × AreNew [] (map (λ (a : Action). a.name) s.task.actions)
 names_new text s h =

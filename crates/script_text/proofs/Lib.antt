@@ -3,9 +3,13 @@ mod NameInLemmas
 mod NameLemmas
 mod NumberLemmas
 mod SectionLemmas
-mod SpellsLemmas
+mod WordsReadLemmas
+mod OfferLemmas
+pub mod SpellsLemmas
 mod ReadLemmas
+mod PartLemmas
+mod OfferBackLemmas
 mod WholeLemmas
-mod KeptLemmas
 mod FitLemmas
-mod AnswerLemmas
+mod LentLemmas
+pub mod AnswerLemmas

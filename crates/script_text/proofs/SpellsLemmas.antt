@@ -1,29 +1,17 @@
 -- What is spelled is read.
-use Rattle.std.proofs.Common.{◌≡◌, ℕ, ◌+◌, ◌≤◌, true, false, nat_le, List, [], ◌∷◌, ◌++◌, Some, Ok, map, codes, refl, sym, ap, ◌∙◌, arith, append_assoc}
+use Rattle.std.proofs.Common.{◌≡◌, ℕ, ◌+◌, true, false, List, [], ◌∷◌, ◌++◌, Ok, map, codes, refl, sym, ap, ◌∙◌, append_assoc}
 use Rattle.std.proofs.lemmas.List.{append-nil}
-use Rattle.std.proofs.lemmas.Bool.Decides.{nat_tests}
 use Rattle.std.specs.Str.{bytes_eq}
 use Rattle.bd_base.specs.Facts.{plus}
 use Rattle.bd_task.specs.declared.ground.Action.{Action}
 use Rattle.script_text.specs.declared.script.Script.{Script}
 use Rattle.script_text.specs.Lines.{worded, is_name, in_parens}
 use Rattle.script_text.specs.Plain.{plain}
-use Rattle.script_text.specs.Names.{place_of, is_declared}
-use Rattle.script_text.specs.Reading.{name_in, known_at, set_at, set_until, list_at, list_until, declared_at, fact_at, action_at, facts_at, actions_at, script_at}
-use Rattle.script_text.specs.Spells.{Listed, fact_line, action_line, AreNew, ArePlaces, IsAction, AreActionsOf, names_of, SpellsScript}
-use Rattle.script_text.proofs.NameInLemmas.{name_in_split}
-
-pub named : (n : List ℕ) → is_name n ≡ true → name_in (in_parens n) ≡ Some n
-named n e = name_in_split 40 41 n ∙ rw e refl
-
-pub known : (names : List (List ℕ)) (place : ℕ) (n : List ℕ) (i : ℕ) → is_name n ≡ true → place_of n names ≡ Some i → known_at names place (in_parens n) ≡ Ok i
-known names place n i e p = rw (named n e, p) refl
-
-pub list_complete : (declared : List (List ℕ)) (place : ℕ) (list : List ℕ) (names : List (List ℕ)) (places : List ℕ) → ArePlaces declared names places → list_at declared place list (map in_parens names) ≡ Ok (list ++ places)
-list_complete declared place list [] [] h = ap (λ (xs : List ℕ). Ok xs) (sym (append-nil list))
-list_complete declared place list [] (i ∷ places) h = absurd h
-list_complete declared place list (n ∷ names) [] h = absurd h
-list_complete declared place list (n ∷ names) (i ∷ places) h = rw (known declared place n i h.0 h.1) (list_complete declared place (list ++ i ∷ []) names places h.2 ∙ ap (λ (xs : List ℕ). Ok xs) (append_assoc list (i ∷ []) places))
+use Rattle.script_text.specs.Names.{is_declared}
+use Rattle.script_text.specs.Reading.{set_at, set_until, list_until, declared_at, fact_at, action_at, facts_at, actions_at, script_at}
+use Rattle.script_text.specs.Spells.{Listed, stop_lines, fact_line, action_line, replace_line, AreNew, ArePlaces, IsAction, AreActionsOf, names_of, SpellsScript}
+use Rattle.script_text.proofs.WordsReadLemmas.{named, known, list_complete, le_true}
+use Rattle.script_text.proofs.OfferLemmas.{rest_complete}
 
 pub set_complete : (facts : List (List ℕ)) (place : ℕ) (names : List (List ℕ)) (places : List ℕ) → ArePlaces facts names places → set_at facts place (map in_parens names) ≡ Ok (plus [] places)
 set_complete facts place names places h = rw (list_complete facts place [] names places h) refl
@@ -44,9 +32,6 @@ pub fact_complete : (before : List (List ℕ)) (place : ℕ) (n : List ℕ) → 
 unfolding fact_at
 fact_complete before place n e d = rw (named n e, d) refl
 
-is_cheap : (n : ℕ) → n ≤ 1_000_000_000 → nat_le n 1_000_000_000 ≡ true
-is_cheap n h = grind (arith, nat_tests)
-
 pub action_complete : (facts before : List (List ℕ)) (place : ℕ) (l : Listed) (a : Action) → is_name l.name ≡ true → is_declared l.name before ≡ false → IsAction facts l a
     → action_at facts before place (in_parens l.name ∷ l.cost ∷ codes "pre" ∷ (map in_parens l.pre ++ codes "add" ∷ (map in_parens l.add ++ codes "del" ∷ map in_parens l.del))) ≡ Ok (a, before ++ l.name ∷ [])
 unfolding action_at
@@ -54,7 +39,7 @@ action_complete facts before place l a e d h =
     let p = until_complete facts place (codes "add") (map in_parens l.add ++ codes "del" ∷ map in_parens l.del) l.pre h.needs.places (λ n. refl) refl h.needs.are in
     let q = until_complete facts place (codes "del") (map in_parens l.del) l.add h.adds.places (λ n. refl) refl h.adds.are in
     let r = set_complete facts place l.del h.deletes.places h.deletes.are in
-    rw (named l.name e, d, h.digits, is_cheap _ h.cheap, p, q, r, ← h.needs.whole, ← h.adds.whole, ← h.deletes.whole, ← h.whole) refl
+    rw (named l.name e, d, h.digits, le_true 1_000_000_000 _ h.cheap, p, q, r, ← h.needs.whole, ← h.adds.whole, ← h.deletes.whole, ← h.whole) refl
 
 pub facts_complete : (rest : List (List (List ℕ))) → ((names : List (List ℕ)) (number : ℕ) → facts_at names number rest ≡ Ok (names, (number, rest)))
     → (before : List (List ℕ)) (number : ℕ) (names : List (List ℕ)) → AreNew before names → (m : ℕ) × (facts_at before number (map fact_line names ++ rest) ≡ Ok (before ++ names, (m, rest)))
@@ -82,13 +67,14 @@ pub spelled_read : (text : List ℕ) (script : Script) → SpellsScript text scr
 unfolding script_at
 spelled_read text script h =
     let s = h.source in
-    let rest : List (List (List ℕ)) = (codes "goal" ∷ map in_parens s.goal) ∷ (codes "plan" ∷ map in_parens s.plan) ∷ (codes "end" ∷ []) ∷ [] in
+    let rest : List (List (List ℕ)) = (codes "goal" ∷ map in_parens s.goal) ∷ (codes "plan" ∷ map in_parens s.plan) ∷ (stop_lines s.stop ++ (map replace_line s.replacements ++ (codes "end" ∷ []) ∷ [])) in
     let f = facts_complete (map action_line s.actions ++ (codes "init" ∷ map in_parens s.init) ∷ rest) (stop_facts s.actions (map in_parens s.init) rest) [] 2 s.facts h.facts_new in
     let a = actions_complete s.facts ((codes "init" ∷ map in_parens s.init) ∷ rest) (λ names actions number. refl) [] [] f.0 s.actions script.task.actions h.actions_new h.actions in
     let i = set_complete s.facts a.0 s.init h.init.places h.init.are in
     let g = set_complete s.facts (a.0 + 1) s.goal h.goal.places h.goal.are in
     let p = list_complete (names_of s.actions) (a.0 + 1 + 1) [] s.plan script.plan h.plan in
-    let read : script_at (worded text) ≡ Ok (plain script.task script.plan) = rw (h.spelled, f.1, a.1, i, g, p, ← h.init.whole, ← h.goal.whole, ← h.facts) refl in
+    let t = rest_complete (names_of s.actions) (a.0 + 1 + 1 + 1) s.stop script.stop s.replacements script.offers h.stop h.offers in
+    let read : script_at (worded text) ≡ Ok (plain script.task script.plan script.stop script.offers) = rw (h.spelled, f.1, a.1, i, g, p, t, ← h.init.whole, ← h.goal.whole, ← h.facts) refl in
     read ∙ ap (λ (x : Script). Ok x) (sym h.others)
 
 pub one_spelled : (text : List ℕ) (s t : Script) → SpellsScript text s → SpellsScript text t → s ≡ t

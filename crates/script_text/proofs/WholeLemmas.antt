@@ -1,41 +1,20 @@
 -- What is read as a line, and as a whole text, is spelled.
-use Rattle.std.proofs.Common.{◌≡◌, ℕ, ◌+◌, ◌≤◌, Bool, true, false, cond, nat_le, List, [], ◌∷◌, ◌++◌, Option, Some, None, Ok, Err, map, codes, refl, sym, ap, subst, ◌∙◌, arith, append_assoc}
+use Rattle.std.proofs.Common.{◌≡◌, ℕ, ◌+◌, Bool, true, false, cond, List, [], ◌∷◌, ◌++◌, Option, Some, None, Ok, Err, map, codes, refl, sym, ap, subst, ◌∙◌, append_assoc}
 use Rattle.std.proofs.lemmas.List.{append-nil}
-use Rattle.std.proofs.lemmas.Bool.Decides.{nat_tests}
 use Rattle.std.proofs.lemmas.Slice.Eq.{bytes_eq-Decides}
 use Rattle.std.specs.Str.{bytes_eq}
 use Rattle.bd_base.specs.declared.text_err.Cause.TheVariants as cause
 use Rattle.bd_base.specs.Facts.{plus, minus}
 use Rattle.bd_task.specs.declared.ground.Action.{Action}
 use Rattle.script_text.specs.declared.script.Script.{Script}
-use Rattle.script_text.specs.Lines.{worded, is_name, in_parens, is_number, number_of}
+use Rattle.script_text.specs.Lines.{worded, is_name, in_parens}
 use Rattle.script_text.specs.Plain.{plain}
 use Rattle.script_text.specs.Names.{is_declared}
-use Rattle.script_text.specs.Reading.{Fault, Left, ◌>>=◌, on_key, after_key, first_word, name_in, name_at, known_at, number_at, word_at, key_at, end_at, set_at, set_until, list_at, list_until, declared_at, fact_at, action_at, facts_at, actions_at, line_at, head_at, set_line, plan_line, none_later, tail_at, no_more, script_at}
-use Rattle.script_text.specs.Spells.{Listed, fact_line, action_line, AreNew, ArePlaces, IsSetOf, IsAction, AreActionsOf, names_of, SpellsScript}
+use Rattle.script_text.specs.Reading.{Fault, Left, ◌>>=◌, on_key, after_key, name_in, name_at, known_at, number_at, word_at, key_at, end_at, set_at, set_until, list_at, list_until, declared_at, fact_at, action_at, facts_at, actions_at, line_at, head_at, set_line, plan_line, rest_at, script_at}
+use Rattle.script_text.specs.Spells.{Listed, fact_line, action_line, AreNew, ArePlaces, IsSetOf, IsAction, AreActionsOf, names_of, AreReplacements, SpellsScript}
 use Rattle.script_text.proofs.ReadLemmas.{bind_ok, ok_is, needed_ok, named_back, known_back, Placed, no_places, more_places, set_back, list_back}
-
-joined : (l m : List (List ℕ)) (xs ys : List (List (List ℕ))) → l ≡ m → xs ≡ ys → l ∷ xs ≡ m ∷ ys
-joined l m xs ys e f = cc
-
-cons2 : (a b : List ℕ) (xs ys : List (List ℕ)) → a ≡ b → xs ≡ ys → a ∷ xs ≡ b ∷ ys
-cons2 a b xs ys e f = cc
-
-key_back : (key : List ℕ) (ws rest : List (List ℕ)) → after_key key ws ≡ Some rest → ws ≡ key ∷ rest
-key_back key [] rest e = cc
-key_back key (w ∷ ws) rest e = by_test (bytes_eq w key) refl e
-  where
-    by_test : (t : Bool) → bytes_eq w key ≡ t → cond t (Some ws) None ≡ Some rest → w ∷ ws ≡ key ∷ rest
-    by_test true p h = let q : w ≡ key = (bytes_eq-Decides w key).0 p in cc
-    by_test false p h = cc
-
-first_back : (ws : List (List ℕ)) (x : List ℕ × List (List ℕ)) → first_word ws ≡ Some x → ws ≡ x.0 ∷ x.1
-first_back [] x e = cc
-first_back (w ∷ ws) x e = let h : (w, ws) ≡ x = cc in ap (λ (y : List ℕ × List (List ℕ)). y.0 ∷ y.1) h
-
-end_back : (place : ℕ) (ws : List (List ℕ)) (u : Unit {0}) → end_at place ws ≡ Ok u → ws ≡ []
-end_back place [] u e = refl
-end_back place (w ∷ ws) u e = cc
+use Rattle.script_text.proofs.PartLemmas.{joined, cons2, app2, after_lines, key_back, end_back, word_back, number_back, line_back}
+use Rattle.script_text.proofs.OfferBackLemmas.{rest_back}
 
 pub record Until (facts : List (List ℕ)) (key list : List ℕ) (ws : List (List ℕ)) (x : List ℕ × List (List ℕ)) : Type 0 where
   pub front : List (List ℕ)
@@ -93,17 +72,6 @@ declared_back before place w x e =
         let s : x ≡ (n, before ++ n ∷ []) = cc in
         record { word = rw s p; named = rw s q; new = rw s r; names = rw s refl }
 
-word_back : (place : ℕ) (ws : List (List ℕ)) (x : List ℕ × List (List ℕ)) → word_at place ws ≡ Ok x → ws ≡ x.0 ∷ x.1
-word_back place ws x e = first_back ws x (needed_ok _ (first_word ws) x e)
-
-number_back : (place : ℕ) (w : List ℕ) (n : ℕ) → number_at place w ≡ Ok n → (is_number w ≡ true) × (number_of w ≡ n) × (number_of w ≤ 1_000_000_000)
-number_back place w n e = by_test (place, cause.BadNumber w) (place, cause.Shape) (is_number w) (nat_le (number_of w) 1_000_000_000) refl refl e
-  where
-    by_test : (A B : Fault) (s t : Bool) → is_number w ≡ s → nat_le (number_of w) 1_000_000_000 ≡ t → cond s (cond t (Ok (number_of w)) (Err A)) (Err B) ≡ Ok n → (is_number w ≡ true) × (number_of w ≡ n) × (number_of w ≤ 1_000_000_000)
-    by_test A B true true p q h = (p, cc, grind (arith, nat_tests))
-    by_test A B true false p q h = cc
-    by_test A B false t p q h = cc
-
 pub record FactBack (before : List (List ℕ)) (ws more : List (List ℕ)) : Type 0 where
   pub name : List ℕ
   pub words : ws ≡ in_parens name ∷ []
@@ -129,9 +97,6 @@ pub record ActionBack (facts before ws : List (List ℕ)) (x : Action × List (L
   pub action : IsAction facts listed x.0
   pub names : x.1 ≡ before ++ listed.name ∷ []
 
-app2 : (a b : List (List ℕ)) (xs ys : List (List ℕ)) → a ≡ b → xs ≡ ys → a ++ xs ≡ b ++ ys
-app2 a b xs ys e f = cc
-
 set_of : (facts ws : List (List ℕ)) (set : List ℕ) (p : Placed facts ws) → set ≡ plus [] p.places → IsSetOf facts p.names set
 set_of facts ws set p e = record { places = p.places; are = p.are; whole = e }
 
@@ -141,13 +106,13 @@ action_back facts before place ws x e =
     let a = bind_ok (word_at place ws) _ x e in
     let b = bind_ok (declared_at before place a.0.0) _ x a.2 in
     let c = bind_ok (word_at place a.0.1) _ x b.2 in
-    let d = bind_ok (number_at place c.0.0) _ x c.2 in
+    let d = bind_ok (number_at 1_000_000_000 place c.0.0) _ x c.2 in
     let k = bind_ok (key_at place (codes "pre") c.0.1) _ x d.2 in
     let p = bind_ok (set_until facts place (codes "add") k.0) _ x k.2 in
     let q = bind_ok (set_until facts place (codes "del") p.0.1) _ x p.2 in
     let r = bind_ok (set_at facts place q.0.1) _ x q.2 in
     let n = declared_back before place a.0.0 b.0 b.1 in
-    let m = number_back place c.0.0 d.0 d.1 in
+    let m = number_back 1_000_000_000 place c.0.0 d.0 d.1 in
     let u = until_back facts place (codes "add") k.0 p.0 p.1 in
     let v = until_back facts place (codes "del") p.0.1 q.0 q.1 in
     let w = set_back facts place q.0.1 r.0 r.1 in
@@ -231,23 +196,6 @@ actions_back facts before done number (l ∷ ls) x e = by_test (after_key (codes
           words = joined _ _ _ _ k r.words;
         }
 
-line_back : (key : List ℕ) (left : Left) (x : List (List ℕ) × Left) → line_at key left ≡ Ok x → left.1 ≡ (key ∷ x.0) ∷ x.1.1
-line_back key left x e = by_lines left.0 left.1 e
-  where
-    by_lines : (n : ℕ) (ls : List (List (List ℕ))) → line_at key (n, ls) ≡ Ok x → ls ≡ (key ∷ x.0) ∷ x.1.1
-    by_lines n [] h = cc
-    by_lines n (l ∷ ls) h =
-        let b = bind_ok (key_at n key l) _ x h in
-        let y : x ≡ (b.0, (n + 1, ls)) = ok_is _ _ _ refl b.2 in
-        rw y (joined _ _ _ _ (key_back key l b.0 (needed_ok _ (after_key key l) b.0 b.1)) refl)
-
-no_more_back : (left : Left) (u : Unit {0}) → no_more left ≡ Ok u → left.1 ≡ []
-no_more_back left u e = by_lines left.0 left.1 e
-  where
-    by_lines : (n : ℕ) (ls : List (List (List ℕ))) → no_more (n, ls) ≡ Ok u → ls ≡ []
-    by_lines n [] h = refl
-    by_lines n (l ∷ ls) h = cc
-
 head_back : (text : List (List (List ℕ))) (left : Left) → head_at text ≡ Ok left → text ≡ (codes "bdpo-script" ∷ codes "1" ∷ []) ∷ left.1
 head_back text left e =
     let a = bind_ok (line_at (codes "bdpo-script") (1, text)) _ left e in
@@ -291,16 +239,6 @@ plan_line_back declared left x e =
       words = line_back (codes "plan") left a.0 a.1 ∙ joined _ _ _ _ (cons2 _ _ _ _ refl s.0.words) (ap (λ (z : List ℕ × Left). z.1.1) (sym y));
     }
 
-tail_back : (left : Left) (u : Unit {0}) → tail_at left ≡ Ok u → left.1 ≡ (codes "end" ∷ []) ∷ []
-tail_back left u e =
-    let n = bind_ok (none_later left) _ u e in
-    let a = bind_ok (line_at (codes "end") left) _ u n.2 in
-    let b = bind_ok (end_at left.0 a.0.0) _ u a.2 in
-    line_back (codes "end") left a.0 a.1 ∙ joined _ _ _ _ (cons2 _ _ _ _ refl (end_back left.0 a.0.0 b.0 b.1)) (no_more_back a.0.1 u b.2)
-
-after_lines : (a b xs ys : List (List (List ℕ))) → a ≡ b → xs ≡ ys → a ++ xs ≡ b ++ ys
-after_lines a b xs ys e f = cc
-
 pub read_spelled : (text : List ℕ) (script : Script) → script_at (worded text) ≡ Ok script → SpellsScript text script
 unfolding script_at
 read_spelled text script e =
@@ -310,17 +248,18 @@ read_spelled text script e =
     let i = bind_ok (set_line (codes "init") f.0.0 c.0.1) _ script c.2 in
     let g = bind_ok (set_line (codes "goal") f.0.0 i.0.1) _ script i.2 in
     let p = bind_ok (plan_line c.0.0.1 g.0.1) _ script g.2 in
-    let t = bind_ok (tail_at p.0.1) _ script p.2 in
-    let z : script ≡ plain (record { facts = f.0.0; actions = c.0.0.0; init = i.0.0; goal = g.0.0 }) p.0.0 = ok_is _ _ _ refl t.2 in
+    let t = bind_ok (rest_at c.0.0.1 p.0.1) _ script p.2 in
+    let z : script ≡ plain (record { facts = f.0.0; actions = c.0.0.0; init = i.0.0; goal = g.0.0 }) p.0.0 t.0.0 t.0.1 = ok_is _ _ _ refl t.2 in
     let fb = facts_back [] a.0.0 a.0.1 f.0 f.1 in
     let cb = actions_back f.0.0 [] [] f.0.1.0 f.0.1.1 c.0 c.1 in
     let ib = set_line_back (codes "init") f.0.0 c.0.1 i.0 i.1 in
     let gb = set_line_back (codes "goal") f.0.0 i.0.1 g.0 g.1 in
     let pb = plan_line_back c.0.0.1 g.0.1 p.0 p.1 in
+    let tb = rest_back c.0.0.1 p.0.1 t.0 t.1 in
     let P : Script → Type 0 = λ s. SpellsScript text s in
     subst P (sym z) (record {
-      source = record { facts = f.0.0; actions = cb.listed; init = ib.names; goal = gb.names; plan = pb.names };
-      spelled = head_back (worded text) a.0 a.1 ∙ joined _ _ _ _ refl (fb.words ∙ after_lines _ _ _ _ (ap (λ (ns : List (List ℕ)). map fact_line ns) (sym fb.whole)) (cb.words ∙ after_lines _ _ _ _ refl (ib.words ∙ joined _ _ _ _ refl (gb.words ∙ joined _ _ _ _ refl (pb.words ∙ joined _ _ _ _ refl (tail_back p.0.1 t.0 t.1))))));
+      source = record { facts = f.0.0; actions = cb.listed; init = ib.names; goal = gb.names; plan = pb.names; stop = tb.stop; replacements = tb.replacements };
+      spelled = head_back (worded text) a.0 a.1 ∙ joined _ _ _ _ refl (fb.words ∙ after_lines _ _ _ _ (ap (λ (ns : List (List ℕ)). map fact_line ns) (sym fb.whole)) (cb.words ∙ after_lines _ _ _ _ refl (ib.words ∙ joined _ _ _ _ refl (gb.words ∙ joined _ _ _ _ refl (pb.words ∙ joined _ _ _ _ refl tb.words)))));
       facts_new = (let Q : List (List ℕ) → Type 0 = λ ns. AreNew [] ns in subst Q (sym fb.whole) fb.new);
       actions_new = cb.new;
       facts = refl;
@@ -328,5 +267,7 @@ read_spelled text script e =
       init = ib.set;
       goal = gb.set;
       plan = (let Q : List (List ℕ) → Type 0 = λ ns. ArePlaces ns pb.names p.0.0 in subst Q cb.names pb.are);
+      stop = tb.stops;
+      offers = (let Q : List (List ℕ) → Type 0 = λ ns. AreReplacements ns tb.replacements t.0.1 in subst Q cb.names tb.are);
       others = refl;
     })

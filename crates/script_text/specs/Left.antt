@@ -14,4 +14,4 @@ abbrev pub task_of : Parts → TaskView
 task_of p = record { facts = p.facts; actions = p.actions.items; init = p.init; goal = p.goal }
 
 abbrev pub script_of : Parts → Script
-script_of p = plain (task_of p) p.plan
+script_of p = plain (task_of p) p.plan p.stop p.offers.items

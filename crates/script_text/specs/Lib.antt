@@ -6,3 +6,4 @@ pub mod Word
 pub mod Left
 pub mod Spells
 pub mod Limits
+pub mod Range

@@ -1,10 +1,9 @@
 ghost use Rattle.std.specs.Prelude.{◌≡◌, ◌<◌, ◌≤◌, ◌^◌, ◌+◌, ◌∷◌, ◌++◌, [], length, IfOk, OnOk};
 ghost use Rattle.script_text.specs.Lines.{words};
-ghost use Rattle.script_text.specs.Reading.{Gives, Fails, name_at, known_at, number_at, set_at, set_until, list_at, list_until, end_at, declared_at, word_at, key_at, fact_at, action_at, shape};
-ghost use Rattle.bd_base.specs.Facts.{minus};
+ghost use Rattle.script_text.specs.Reading.{Gives, Fails, name_at, known_at, number_at, stop_number, stop_at, set_at, set_until, list_at, list_until, end_at, declared_at, word_at, key_at, fact_at, action_at, shape};
 
 use crate::names::Names;
-use crate::words::{after_key, cost_of, is_number, name_in, next_word};
+use crate::words::{after_key, is_number, name_in, next_word, value_of};
 use bd_base::{
     ActList, ActionId, Cause, FactId, FactSet, FromItems, Items, NoMemory, Text, TextErr,
 };
@@ -30,7 +29,7 @@ fn name_at(place: u32, word: &[u8]) -> Result<&[u8], TextErr>
     }
 }
 
-fn known_at(alloc: Global, names: &Names, place: u32, word: &[u8]) -> Result<u32, TextErr>
+pub fn known_at(alloc: Global, names: &Names, place: u32, word: &[u8]) -> Result<u32, TextErr>
     ensures { Gives (λ n. n) result (known_at names.now place word.now) }
 {
     let name = name_at(place, word)?;
@@ -43,22 +42,35 @@ fn known_at(alloc: Global, names: &Names, place: u32, word: &[u8]) -> Result<u32
     }
 }
 
-fn number_at(alloc: Global, place: u32, word: &[u8]) -> Result<u64, TextErr>
-    ensures { Gives (λ n. n) result (number_at place word.now) }
+pub fn number_at(alloc: Global, most: u64, place: u32, word: &[u8]) -> Result<u64, TextErr>
+    requires { most < 2 ^ 40 }
+    ensures number { Gives (λ n. n) result (number_at most place word.now) }
+    ensures small { IfOk result (λ n. n ≤ most) }
 {
     if !is_number(word) {
         return Err(shape(place));
     }
-    match cost_of(word) {
+    match value_of(word, most) {
         None => {
             let cause = Cause::BadNumber(Text::from_slice(alloc, word)?);
             Err(TextErr::At { place, cause })
         }
-        Some(cost) => Ok(cost),
+        Some(number) => Ok(number),
     }
 }
 
-fn word_at(place: u32, line: &[u8]) -> Result<(&[u8], &[u8]), TextErr>
+fn stop_number(alloc: Global, place: u32, word: &[u8]) -> Result<u32, TextErr>
+    ensures { Gives (λ n. n) result (stop_number place word.now) }
+{
+    let number = number_at(alloc, 1_000_000, place, word)?;
+    if number == 0 {
+        let cause = Cause::BadNumber(Text::from_slice(alloc, word)?);
+        return Err(TextErr::At { place, cause });
+    }
+    Ok(number as u32)
+}
+
+pub fn word_at(place: u32, line: &[u8]) -> Result<(&[u8], &[u8]), TextErr>
     ensures { Gives (λ p. (p.0.now, words p.1.now)) result (word_at place (words line.now)) }
 {
     match next_word(line) {
@@ -83,6 +95,15 @@ pub fn end_at(place: u32, line: &[u8]) -> Result<(), TextErr>
         None => Ok(()),
         Some(_) => Err(shape(place)),
     }
+}
+
+pub fn stop_at(alloc: Global, place: u32, line: &[u8]) -> Result<u32, TextErr>
+    ensures { Gives (λ n. n) result (stop_at place (words line.now)) }
+{
+    let (word, rest) = word_at(place, line)?;
+    let stop = stop_number(alloc, place, word)?;
+    end_at(place, rest)?;
+    Ok(stop)
 }
 
 fn fact_list_at(
@@ -190,19 +211,6 @@ pub fn list_at(alloc: Global, names: &Names, place: u32, line: &[u8]) -> Result<
     Ok(Items::of(list))
 }
 
-/// The facts of a set that are not added.
-fn without(alloc: Global, set: &FactSet, added: &FactSet) -> Result<FactSet, NoMemory>
-    ensures { IfOk result (λ kept. kept ≡ minus set.now added.now) }
-{
-    let mut kept = Vec::new(alloc);
-    for f in set.iter() {
-        if !added.has(f) {
-            kept.push(f)?;
-        }
-    }
-    FactSet::of(kept)
-}
-
 #[tactic(auto, unfolding(crate::specs::Reading::action_at))]
 pub fn action_at<'a>(
     alloc: Global,
@@ -218,12 +226,12 @@ pub fn action_at<'a>(
     let (word, rest) = word_at(place, line)?;
     let name = declared_at(alloc, names, place, word)?;
     let (word, rest) = word_at(place, rest)?;
-    let cost = number_at(alloc, place, word)?;
+    let cost = number_at(alloc, 1_000_000_000, place, word)?;
     let rest = key_at(place, b"pre", rest)?;
     let (pre, rest) = set_until(alloc, facts, place, b"add", rest)?;
     let (add, rest) = set_until(alloc, facts, place, b"del", rest)?;
-    let del = set_at(alloc, facts, place, rest)?;
-    let del = without(alloc, &del, &add)?;
+    let mut del = set_at(alloc, facts, place, rest)?;
+    del.minus(&add);
     let name = Text::from_slice(alloc, name)?;
     Ok(Action {
         name,

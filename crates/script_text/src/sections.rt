@@ -1,21 +1,24 @@
 ghost use Rattle.std.specs.Prelude.{◌≡◌, ◌<◌, ◌≤◌, ◌^◌, ◌+◌, ◌∷◌, ◌++◌, [], length, IfOk, All, codes, List, map, ℕ};
-ghost use Rattle.std.specs.Str.{bytes_eq};
 ghost use Rattle.script_text.specs.Lines.{words, worded};
 ghost use Rattle.script_text.specs.Left.{left, task_of, script_of};
-ghost use Rattle.script_text.specs.Reading.{Gives, Fails, facts_at, actions_at, line_at, head_at, set_line, plan_line, none_later, is_later, begins_later, tail_at, no_more, script_at};
+ghost use Rattle.script_text.specs.Reading.{Gives, Fails, facts_at, actions_at, line_at, head_at, set_line, plan_line, not_yet, stop_line, offers_at, tail_at, rest_at, no_more, script_at};
 ghost use Rattle.script_text.specs.Limits.{over_of, Answers, Spelled};
 ghost use Rattle.script_text.specs.Spells.{SpellsScript};
 ghost use Rattle.script_text.specs.declared.script.Script.{Script};
 ghost use Rattle.script_text.specs.Spells.{AreNew};
+ghost use Rattle.script_text.specs.Range.{HasActionsBelow};
 ghost use Rattle.bd_task.specs.TaskView.{IsTask};
+ghost use Rattle.plan_core.specs.Replies.{IsLent};
 
 use crate::lines::{Lines, first_line};
 use crate::names::Names;
-use crate::readers::{action_at, end_at, fact_at, key_at, list_at, set_at, shape};
+use crate::offers::{later, replace_at};
+use crate::readers::{action_at, end_at, fact_at, key_at, list_at, set_at, shape, stop_at};
 use crate::script::Script;
-use crate::words::{after_key, next_word};
-use bd_base::{ActList, Cause, FactSet, FromItems, Items, Limit, NoMemory, TextErr};
+use crate::words::after_key;
+use bd_base::{ActList, FactSet, FromItems, Items, Limit, NoMemory, TextErr};
 use bd_task::{Action, Task};
+use plan_core::Offer;
 use std::alloc::Global;
 
 fn facts_at<'a>(alloc: Global, start: Lines<'a>) -> Result<(Names<'a>, Lines<'a>), TextErr>
@@ -120,56 +123,69 @@ fn no_more(at: Lines) -> Result<(), TextErr>
     }
 }
 
-fn is_same(word: &[u8], other: &[u8]) -> bool
-    ensures { result ≡ bytes_eq word.now other.now }
-{
-    word == other
-}
-
-/// Whether a line that begins so is of a form that is not read yet.
-fn is_later(word: &[u8]) -> bool
-    ensures { result ≡ is_later word.now }
-{
-    is_same(word, b"start")
-        || is_same(word, b"stop")
-        || is_same(word, b"replace")
-        || is_same(word, b"tighten")
-        || is_same(word, b"rebuild")
-}
-
-fn begins_later(line: &[u8]) -> bool
-    ensures { result ≡ begins_later (words line.now) }
-{
-    match next_word(line) {
-        None => false,
-        Some((word, _)) => is_later(word),
-    }
-}
-
-fn none_later(at: Lines) -> Result<(), TextErr>
-    ensures { Gives (λ _. tt) result (none_later (left at.entry)) }
+fn not_yet(key: &[u8], at: Lines) -> Result<(), TextErr>
+    ensures { Gives (λ _. tt) result (not_yet key.now (left at.entry)) }
 {
     match at.next() {
         None => Ok(()),
-        Some((line, _)) => {
-            if begins_later(line) {
-                return Err(TextErr::At {
-                    place: at.number,
-                    cause: Cause::Later,
-                });
-            }
-            Ok(())
-        }
+        Some((line, _)) => match after_key(line, key) {
+            None => Ok(()),
+            Some(_) => Err(later(at.number)),
+        },
     }
 }
 
+fn stop_line(alloc: Global, at: Lines<'_>) -> Result<(u32, Lines<'_>), TextErr>
+    ensures { Gives (λ p. (p.0, left p.1)) result (stop_line (left at.entry)) }
+{
+    match at.next() {
+        None => Ok((1_000_000, at)),
+        Some((line, after)) => match after_key(line, b"stop") {
+            None => Ok((1_000_000, at)),
+            Some(rest) => Ok((stop_at(alloc, at.number, rest)?, after)),
+        },
+    }
+}
+
+fn offers_at<'a>(
+    alloc: Global,
+    names: &Names,
+    start: Lines<'a>,
+) -> Result<(Vec<Offer>, Lines<'a>), TextErr>
+    ensures { Gives (λ p. (p.0.items, left p.1)) result (offers_at names.now [] start.entry.number (worded start.entry.rest.now)) }
+{
+    let mut offers = Vec::new(alloc);
+    let mut at = start;
+    while let Some((line, after)) = at.next() {
+        match after_key(line, b"replace") {
+            None => return Ok((offers, at)),
+            Some(rest) => offers.push(replace_at(alloc, names, at.number, rest)?)?,
+        }
+        at = after;
+    }
+    Ok((offers, at))
+}
+
+#[tactic(auto, unfolding(crate::specs::Reading::tail_at))]
 fn tail_at(at: Lines) -> Result<(), TextErr>
     ensures { Gives (λ _. tt) result (tail_at (left at.entry)) }
 {
-    none_later(at)?;
+    not_yet(b"tighten", at)?;
+    not_yet(b"rebuild", at)?;
     let (line, after) = line_at(b"end", at)?;
     end_at(at.number, line)?;
     no_more(after)
+}
+
+#[tactic(auto, unfolding(crate::specs::Reading::rest_at))]
+fn rest_at(alloc: Global, names: &Names, at: Lines) -> Result<(u32, Vec<Offer>), TextErr>
+    ensures { Gives (λ p. (p.0, p.1.items)) result (rest_at names.now (left at.entry)) }
+{
+    not_yet(b"start", at)?;
+    let (stop, at) = stop_line(alloc, at)?;
+    let (offers, at) = offers_at(alloc, names, at)?;
+    tail_at(at)?;
+    Ok((stop, offers))
 }
 
 /// What a script says, before its counts are judged.
@@ -180,6 +196,8 @@ struct Parts<'a> {
     init: FactSet,
     goal: FactSet,
     plan: ActList,
+    stop: u32,
+    offers: Vec<Offer>,
 }
 
 #[tactic(auto, unfolding(crate::specs::Reading::script_at))]
@@ -193,7 +211,7 @@ fn script_at<'a>(alloc: Global, text: &'a [u8]) -> Result<Parts<'a>, TextErr>
     let (init, at) = set_line(alloc, b"init", &facts, at)?;
     let (goal, at) = set_line(alloc, b"goal", &facts, at)?;
     let (plan, at) = plan_line(alloc, &found.names, at)?;
-    tail_at(at)?;
+    let (stop, offers) = rest_at(alloc, &found.names, at)?;
     let Actions { actions, names: _ } = found;
     Ok(Parts {
         facts,
@@ -201,6 +219,8 @@ fn script_at<'a>(alloc: Global, text: &'a [u8]) -> Result<Parts<'a>, TextErr>
         init,
         goal,
         plan,
+        stop,
+        offers,
     })
 }
 
@@ -217,6 +237,9 @@ fn first_over(parts: &Parts) -> Option<(Limit, u64)>
     if parts.plan.len() > 2_000 {
         return Some((Limit::Steps, 2_001));
     }
+    if parts.offers.len() > 1_000_000 {
+        return Some((Limit::Offers, 1_000_001));
+    }
     None
 }
 
@@ -230,8 +253,8 @@ fn script_from(alloc: Global, parts: Parts) -> Result<Script, NoMemory>
         plan: parts.plan,
         start: None,
         start_line: 0,
-        stop: 1_000_000,
-        offers: Items::of(Vec::new(alloc)),
+        stop: parts.stop,
+        offers: Items::of(parts.offers),
     })
 }
 
@@ -257,6 +280,10 @@ pub fn read_script(alloc: Global, text: &[u8]) -> Result<Script, TextErr>
     // What the callers need of it.
     ensures in_range { IfOk result (λ s. All (λ a. a < length s.task.actions) s.plan) }
     ensures few { IfOk result (λ s. length s.plan ≤ 2_000) }
+    ensures stops { IfOk result (λ s. (0 < s.stop) × (s.stop ≤ 1_000_000)) }
+    ensures offers_in_range { IfOk result (λ s. All (λ o. HasActionsBelow (length s.task.actions) o) s.offers) }
+    ensures few_offers { IfOk result (λ s. length s.offers ≤ 1_000_000) }
+    ensures offers_lent { IfOk result (λ s. All IsLent s.offers) }
     ensures distinct { IfOk result (λ s. AreNew [] s.task.facts × AreNew [] (map (λ a. a.name) s.task.actions)) }
 {
     read_within(alloc, text)
