@@ -1,11 +1,13 @@
 -- What the words and the texts that they name lead to: a script that is ready to run, or a refusal with its line.
-use Rattle.std.specs.Prelude.{◌≡◌, ℕ, ◌<◌, ◌≤◌, All, List, length, Some, None, Err}
+use Rattle.std.specs.Prelude.{◌≡◌, ℕ, ◌<◌, ◌≤◌, Bool, true, false, All, List, length, Some, None, Err}
+use Rattle.bd_base.specs.Causes.{Rose}
 use Rattle.bd_base.specs.Shelf.{Told, untold, absent, text}
 use Rattle.bd_base.specs.declared.text_err.Cause.{Cause}
 use Rattle.bd_base.specs.declared.text_err.Limit.{Limit}
 use Rattle.bd_base.specs.declared.text_err.Limit.TheVariants as limit
 use Rattle.bd_task.specs.TaskView.{TaskView}
 use Rattle.bd_task.specs.Valid.{IsValid, Break, step_lacks, goal_lacks, first_break}
+use Rattle.plan_core.specs.Replies.{IsLent}
 use Rattle.seq_check.specs.declared.judging.Broken.{Broken}
 use Rattle.seq_check.specs.declared.judging.Broken.TheVariants as broken
 use Rattle.script_text.specs.declared.script.Script.{Script}
@@ -22,11 +24,18 @@ use Rattle.bd_top.specs.declared.status.Status.TheVariants as status
 use Rattle.bd_top.specs.Texts.{invalid_line, refused_line, over_line, unread_line}
 use Rattle.bd_top.specs.Words.{script_named}
 
--- what a run asks of a script: the plan's actions are the task's, there are few of them, they run to the goal, and the core may close
-pub record IsRunnable (script : Script) : Type 0 where
+-- what a reader promises of a script: the plan's actions are the task's, there are few of them, the core may close, and there are few
+-- offers with few actions each
+pub record IsBounded (script : Script) : Type 0 where
   pub in_range : All (λ a. a < length script.task.actions) script.plan
   pub few : length script.plan ≤ 2_000
   pub stops : (0 < script.stop) × (script.stop ≤ 1_000_000)
+  pub few_offers : length script.offers ≤ 1_000_000
+  pub lent : All IsLent script.offers
+
+-- what a run asks of a script
+pub record IsRunnable (script : Script) : Type 0 where
+  pub bounded : IsBounded script
   pub valid : IsValid script.task script.plan
 
 -- the text spells a script within the limits, whose plan is valid
@@ -40,6 +49,7 @@ pub record IsBroken (t : List ℕ) (break : Break) (line : List ℕ) : Type 0 wh
   pub script : Script
   pub spelled : SpellsScript t script
   pub within : over_of script ≡ None
+  pub invalid : IsValid script.task script.plan → ⊥
   pub first : first_break script.task script.plan ≡ Some break
   pub noted : line ≡ invalid_line script.task break
 
@@ -70,10 +80,10 @@ HasFact facts (broken.Step at f) = f < facts
 HasFact facts (broken.Goal f) = f < facts
 HasFact facts broken.NoMemory = Unit {0}
 
--- the break is the first of the script's plan, or memory was wanting
+-- the plan isn't valid, and this is its first break, or memory was wanting
 abbrev pub IsFirstBreak : Script → Broken → Type 0
-IsFirstBreak script (broken.Step at f) = first_break script.task script.plan ≡ Some (step_lacks at f)
-IsFirstBreak script (broken.Goal f) = first_break script.task script.plan ≡ Some (goal_lacks f)
+IsFirstBreak script (broken.Step at f) = (IsValid script.task script.plan → ⊥) × (first_break script.task script.plan ≡ Some (step_lacks at f))
+IsFirstBreak script (broken.Goal f) = (IsValid script.task script.plan → ⊥) × (first_break script.task script.plan ≡ Some (goal_lacks f))
 IsFirstBreak script broken.NoMemory = Unit {0}
 
 -- the line for a plan that breaks so
@@ -88,18 +98,38 @@ IsToldAs untold read = Unit {0}
 IsToldAs absent read = ⊥
 IsToldAs (text t) read = t ≡ read
 
+-- the counts of a shelf's faults and long texts, before and after a call
+pub record Counts : Type 0 where
+  pub faults : ℕ
+  pub faults_after : ℕ
+  pub longs : ℕ
+  pub longs_after : ℕ
+
+-- a text couldn't be read: it is told that it isn't there, which is told as missing, or the shelf's count of faults rose
+abbrev pub IsUnread : Told → Counts → Bool → Type 0
+IsUnread absent c true = Unit {0}
+IsUnread absent c false = ⊥
+IsUnread untold c missing = Rose c.faults c.faults_after
+IsUnread (text t) c missing = Rose c.faults c.faults_after × (length t ≤ 16_777_216)
+
+-- a text was too long: the count of long texts rose, and the text that is told has more than 16 MiB
+abbrev pub IsLong : Told → Counts → Type 0
+IsLong untold c = Rose c.longs c.longs_after
+IsLong absent c = ⊥
+IsLong (text t) c = Rose c.longs c.longs_after × (16_777_216 < length t)
+
 -- a text of at most 16 MiB was read, of which P holds
-pub record Reads (told : Told) (P : List ℕ → Type 0) : Type 0 where
+pub record WasRead (told : Told) (P : List ℕ → Type 0) : Type 0 where
   pub read : List ℕ
   pub is_told : IsToldAs told read
   pub short : length read ≤ 16_777_216
   pub holds : P read
 
 -- why the script of a name is refused, by what the shelf tells of it
-abbrev pub IsNamedRefusal : List ℕ → Told → Status → List ℕ → Type 0
-IsNamedRefusal name told (status.ReadFault n missing) line = (n ≡ name) × (line ≡ unread_line name missing)
-IsNamedRefusal name told (status.OverLimit limit.Text count) line = (count ≡ 16_777_217) × (line ≡ over_line limit.Text count)
-IsNamedRefusal name told other line = Reads told (λ t. IsTextRefusal t other line)
+abbrev pub IsNamedRefusal : List ℕ → Told → Counts → Status → List ℕ → Type 0
+IsNamedRefusal name told c (status.ReadFault n missing) line = (n ≡ name) × (line ≡ unread_line name missing) × IsUnread told c missing
+IsNamedRefusal name told c (status.OverLimit limit.Text count) line = (count ≡ 16_777_217) × (line ≡ over_line limit.Text count) × IsLong told c
+IsNamedRefusal name told c other line = WasRead told (λ t. IsTextRefusal t other line)
 
 -- the words name a script, of which P holds
 pub record Names (words : List (List ℕ)) (P : List ℕ → Type 0) : Type 0 where
@@ -108,21 +138,21 @@ pub record Names (words : List (List ℕ)) (P : List ℕ → Type 0) : Type 0 wh
   pub holds : P name
 
 -- why a run is refused, and the line that says so
-abbrev pub IsRefusal : List (List ℕ) → (List ℕ → Told) → Status → List ℕ → Type 0
-IsRefusal words tells status.Usage line = (script_named words ≡ None) × (line ≡ USAGE.now)
-IsRefusal words tells other line = Names words (λ name. IsNamedRefusal name (tells name) other line)
+abbrev pub IsRefusal : List (List ℕ) → (List ℕ → Told) → Counts → Status → List ℕ → Type 0
+IsRefusal words tells c status.Usage line = (script_named words ≡ None) × (line ≡ USAGE.now)
+IsRefusal words tells c other line = Names words (λ name. IsNamedRefusal name (tells name) c other line)
 
 -- the words name a script that is ready to run
 abbrev pub IsReady : List (List ℕ) → (List ℕ → Told) → Script → Type 0
-IsReady words tells script = Names words (λ name. Reads (tells name) (λ t. IsReadyText t script))
+IsReady words tells script = Names words (λ name. WasRead (tells name) (λ t. IsReadyText t script))
 
 -- what is prepared of a script whose plan is in range
 abbrev pub PreparesScript : Script → Prepared → Type 0
 PreparesScript script (prepared.Ready same) = (same ≡ script) × IsRunnable script
 PreparesScript script (prepared.Refused (status.PlanInvalid (broken.Step at f)) line) =
-    (first_break script.task script.plan ≡ Some (step_lacks at f)) × (line ≡ invalid_line script.task (step_lacks at f))
+    IsFirstBreak script (broken.Step at f) × (line ≡ invalid_line script.task (step_lacks at f))
 PreparesScript script (prepared.Refused (status.PlanInvalid (broken.Goal f)) line) =
-    (first_break script.task script.plan ≡ Some (goal_lacks f)) × (line ≡ invalid_line script.task (goal_lacks f))
+    IsFirstBreak script (broken.Goal f) × (line ≡ invalid_line script.task (goal_lacks f))
 PreparesScript script (prepared.Refused other line) = ⊥
 PreparesScript script prepared.NoMemory = Unit {0}
 
@@ -132,12 +162,12 @@ PreparesText t (prepared.Ready script) = IsReadyText t script
 PreparesText t (prepared.Refused why line) = IsTextRefusal t why line
 PreparesText t prepared.NoMemory = Unit {0}
 
-abbrev pub PreparesNamed : List ℕ → Told → Prepared → Type 0
-PreparesNamed name told (prepared.Ready script) = Reads told (λ t. IsReadyText t script)
-PreparesNamed name told (prepared.Refused why line) = IsNamedRefusal name told why line
-PreparesNamed name told prepared.NoMemory = Unit {0}
+abbrev pub PreparesNamed : List ℕ → Told → Counts → Prepared → Type 0
+PreparesNamed name told c (prepared.Ready script) = WasRead told (λ t. IsReadyText t script)
+PreparesNamed name told c (prepared.Refused why line) = IsNamedRefusal name told c why line
+PreparesNamed name told c prepared.NoMemory = Unit {0}
 
-abbrev pub Prepares : List (List ℕ) → (List ℕ → Told) → Prepared → Type 0
-Prepares words tells (prepared.Ready script) = IsReady words tells script
-Prepares words tells (prepared.Refused why line) = IsRefusal words tells why line
-Prepares words tells prepared.NoMemory = Unit {0}
+abbrev pub Prepares : List (List ℕ) → (List ℕ → Told) → Counts → Prepared → Type 0
+Prepares words tells c (prepared.Ready script) = IsReady words tells script
+Prepares words tells c (prepared.Refused why line) = IsRefusal words tells c why line
+Prepares words tells c prepared.NoMemory = Unit {0}

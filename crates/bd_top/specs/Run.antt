@@ -1,61 +1,144 @@
 -- How a run ends, and what its sinks have received then.
-use Rattle.std.specs.Prelude.{◌≡◌, ℕ, ◌≤◌, ◌⊎◌, List, [], length, Option, Some, None, Result, Ok, Err}
-use Rattle.bd_base.specs.Causes.{Rose, TakesPart, appended}
-use Rattle.bd_base.specs.Shelf.{Told}
+use Rattle.std.specs.Prelude.{◌≡◌, ◌⊎◌, ℕ, ◌≤◌, ◌==◌, if◌then◌else◌, List, length, Option, Some, None, Result, Ok, Err}
+use Rattle.bd_base.specs.Causes.{Rose}
+use Rattle.bd_base.specs.Shelf.{Told, text}
+use Rattle.bd_task.specs.Valid.{IsValid}
 use Rattle.bd_tree.specs.Chain.{chain_of}
-use Rattle.bd_links.specs.Sound.{RunsAlways}
+use Rattle.plan_core.specs.Core.{CoreView, opening}
+use Rattle.plan_core.specs.Law.{OpensOn, IsLawful}
+use Rattle.plan_core.specs.declared.offer.Offer.{Offer}
+use Rattle.plan_core.specs.declared.refusal.Refusal.{Refusal}
 use Rattle.script_text.specs.declared.script.Script.{Script}
+use Rattle.script_text.specs.Limits.{over_of}
+use Rattle.script_text.specs.Spells.{SpellsScript}
+use Rattle.bd_top.specs.declared.record.End.{End}
 use Rattle.bd_top.specs.declared.record.End.TheVariants as end
 use Rattle.bd_top.specs.declared.record.RunRecord.{RunRecord}
 use Rattle.bd_top.specs.declared.status.Status.{Status}
 use Rattle.bd_top.specs.declared.status.Status.TheVariants as status
-use Rattle.bd_top.specs.Prepared.{IsReady, IsRefusal}
-use Rattle.bd_top.specs.Texts.{summary_of}
+use Rattle.bd_top.specs.declared.replay.Stop.{Stop}
+use Rattle.bd_top.specs.declared.replay.Stop.TheVariants as stop
+use Rattle.bd_top.specs.Prepared.{Counts, IsReady, IsRefusal}
+use Rattle.bd_top.specs.Replay.{Makes}
+use Rattle.bd_top.specs.Taken.{Taken, IsSilent, Receives, ReceivesPart, HasFailed, IsCut}
+use Rattle.bd_top.specs.Texts.{summary_of, printed_of, noted_of}
+use Rattle.bd_top.specs.Words.{script_named}
 
--- what the two sinks tell before and after a call, and the counts of faults of `notes`
-pub record Sinks : Type 0 where
-  pub out : Option (List ℕ)
-  pub out_after : Option (List ℕ)
-  pub notes : Option (List ℕ)
-  pub notes_after : Option (List ℕ)
-  pub faults : ℕ
-  pub faults_after : ℕ
+-- a run ends with its script where every offer was made
+abbrev pub end_of : List Offer → List (Result ℕ Refusal) → Option End
+end_of offers replies = if length replies == length offers then Some end.Script else None
 
--- a sink has received the piece, or a first part of it where its count rose
-abbrev pub Receives : Option (List ℕ) → Option (List ℕ) → ℕ → ℕ → List ℕ → Type 0
-Receives before after faults faults_after piece = (after ≡ appended before piece) ⊎ (Rose faults faults_after × TakesPart before after piece)
+-- the record of a core that some first offers led to, with their replies
+abbrev pub record_of : List Offer → List (Result ℕ Refusal) → CoreView → RunRecord
+record_of offers replies core = record {
+  task = core.task;
+  start = core.start;
+  history = core.history;
+  tree = core.tree;
+  replies = replies;
+  end = end_of offers replies;
+}
 
--- the run of a script without offers: the core is opened on the chain of the plan, and nothing is offered
-abbrev pub run_of : Script → RunRecord
-run_of script = record { task = script.task; start = chain_of script.plan; history = []; tree = chain_of script.plan; end = Some end.Script }
+-- the run of a list of offers on a core: some first ones of them were made, each reply is the defined one, and of the core that they
+-- led to all holds that holds of every core, so that at each place each linearisation of the tree is valid
+pub record IsRunOf (core : CoreView) (offers : List Offer) (run : RunRecord) : Type 0 where
+  pub last : CoreView
+  pub recorded : run ≡ record_of offers run.replies last
+  pub opens : OpensOn core.task core.start core.stop last
+  pub made : Makes core offers run.replies last
+  pub lawful : IsLawful last
 
--- the words and the texts lead to a script with a valid plan, whose run is recorded: each linearisation of its tree is valid, and `out` has received exactly the summary
-pub record IsDone (words : List (List ℕ)) (tells : List ℕ → Told) (s : Sinks) (run : Option RunRecord) : Type 0 where
+-- the core that opens on the chain of a script's plan
+abbrev pub opening_of : Script → CoreView
+opening_of script = opening script.task (chain_of script.plan) script.stop
+
+-- the words and the texts lead to a script with a valid plan, and this is its run
+pub record IsRecorded (words : List (List ℕ)) (tells : List ℕ → Told) (run : RunRecord) : Type 0 where
   pub script : Script
   pub ready : IsReady words tells script
-  pub recorded : run ≡ Some (run_of script)
-  pub runs : RunsAlways script.task (chain_of script.plan)
-  pub summed : s.out_after ≡ appended s.out (summary_of (run_of script))
-  pub no_notes : s.notes_after ≡ s.notes
+  pub is_run : IsRunOf (opening_of script) script.offers run
 
--- the words and the texts lead to a refusal: nothing was put to `out`, its line to `notes`, and there is no run
-pub record IsRefused (words : List (List ℕ)) (tells : List ℕ → Told) (s : Sinks) (why : Status) (run : Option RunRecord) : Type 0 where
+-- of the run that a status comes with
+abbrev pub OfRun : Option RunRecord → (RunRecord → Type 0) → Type 0
+OfRun None P = ⊥
+OfRun (Some run) P = P run
+
+-- every offer was made, and the sinks have received exactly what the run puts
+pub record IsDone (words : List (List ℕ)) (tells : List ℕ → Told) (out notes : Taken) (run : RunRecord) : Type 0 where
+  pub recorded : IsRecorded words tells run
+  pub ended : run.end ≡ Some end.Script
+  pub printed : Receives out (printed_of run)
+  pub noted : Receives notes (noted_of run)
+
+-- the sinks have received first parts of what the run puts
+pub record IsPartly (words : List (List ℕ)) (tells : List ℕ → Told) (out notes : Taken) (run : RunRecord) : Type 0 where
+  pub recorded : IsRecorded words tells run
+  pub printed : ReceivesPart out (printed_of run)
+  pub noted : ReceivesPart notes (noted_of run)
+
+-- one of the sinks failed
+pub record IsWriteFault (words : List (List ℕ)) (tells : List ℕ → Told) (out notes : Taken) (run : RunRecord) : Type 0 where
+  pub failed : HasFailed out ⊎ HasFailed notes
+  pub partly : IsPartly words tells out notes run
+
+-- memory was wanting: the run was kept, or nothing was put
+abbrev pub IsOutOfMemory : List (List ℕ) → (List ℕ → Told) → Taken → Taken → Option RunRecord → Type 0
+IsOutOfMemory words tells out notes None = IsSilent out × IsSilent notes
+IsOutOfMemory words tells out notes (Some run) = IsPartly words tells out notes run
+
+-- the words and the texts lead to a refusal: nothing was put to `out`, its line to `notes`, or a first part of it where that failed, and there is no run
+pub record IsRefused (words : List (List ℕ)) (tells : List ℕ → Told) (c : Counts) (out notes : Taken) (why : Status) (run : Option RunRecord) : Type 0 where
   pub line : List ℕ
-  pub refusal : IsRefusal words tells why line
-  pub silent : s.out_after ≡ s.out
-  pub noted : Receives s.notes s.notes_after s.faults s.faults_after line
+  pub refusal : IsRefusal words tells c why line
+  pub nothing : IsSilent out
+  pub noted : Receives notes line ⊎ IsCut notes line
   pub no_run : run ≡ None
 
--- the summary of a run was put, or the sink failed, or memory was wanting
-abbrev pub IsSummed : RunRecord → Option (List ℕ) → Option (List ℕ) → Status → Option RunRecord → Type 0
-IsSummed run out out_after status.Done ended = (ended ≡ Some run) × (out_after ≡ appended out (summary_of run))
-IsSummed run out out_after status.WriteFault ended = Unit {0}
-IsSummed run out out_after status.NoMemory ended = Unit {0}
-IsSummed run out out_after other ended = ⊥
-
 -- how a run ends
-abbrev pub Ends : List (List ℕ) → (List ℕ → Told) → Sinks → Status → Option RunRecord → Type 0
-Ends words tells s status.Done run = IsDone words tells s run
-Ends words tells s status.WriteFault run = Unit {0}
-Ends words tells s status.NoMemory run = Unit {0}
-Ends words tells s why run = IsRefused words tells s why run
+abbrev pub Ends : List (List ℕ) → (List ℕ → Told) → Counts → Taken → Taken → Status → Option RunRecord → Type 0
+Ends words tells c out notes status.Done run = OfRun run (IsDone words tells out notes)
+Ends words tells c out notes status.WriteFault run = OfRun run (IsWriteFault words tells out notes)
+Ends words tells c out notes status.NoMemory run = IsOutOfMemory words tells out notes run
+Ends words tells c out notes why run = IsRefused words tells c out notes why run
+
+-- what the run of a list of offers on a core ends with
+abbrev pub Replays : CoreView → List Offer → Taken → Taken → Status → Option RunRecord → Type 0
+Replays core offers out notes status.Done (Some run) = IsRunOf core offers run × (run.end ≡ Some end.Script) × Receives out (printed_of run) × Receives notes (noted_of run)
+Replays core offers out notes status.WriteFault (Some run) = IsRunOf core offers run × (HasFailed out ⊎ HasFailed notes) × ReceivesPart out (printed_of run) × ReceivesPart notes (noted_of run)
+Replays core offers out notes status.NoMemory (Some run) = IsRunOf core offers run × ReceivesPart out (printed_of run) × ReceivesPart notes (noted_of run)
+Replays core offers out notes status.NoMemory None = IsSilent out × IsSilent notes
+Replays core offers out notes other run = ⊥
+
+abbrev pub status_of : Stop → Status
+status_of stop.WriteFault = status.WriteFault
+status_of stop.NoMemory = status.NoMemory
+
+-- the summary of a run was put where every offer was made, or a sink failed, or memory was wanting; the run is kept
+abbrev pub Finishes : Result (Unit {0}) Stop → RunRecord → Taken → Status → Option RunRecord → Type 0
+Finishes (Ok all) run out status.Done ended = (ended ≡ Some run) × Receives out (summary_of run)
+Finishes (Ok all) run out status.WriteFault ended = (ended ≡ Some run) × IsCut out (summary_of run)
+Finishes (Ok all) run out status.NoMemory ended = (ended ≡ Some run) × IsSilent out
+Finishes (Err stop.WriteFault) run out status.WriteFault ended = (ended ≡ Some run) × IsSilent out
+Finishes (Err stop.NoMemory) run out status.NoMemory ended = (ended ≡ Some run) × IsSilent out
+Finishes made run out other ended = ⊥
+
+-- the words name a script whose text is told: it has at most 16 MiB and spells a script within the limits, whose plan is valid
+pub record IsGood (words : List (List ℕ)) (tells : List ℕ → Told) (script : Script) : Type 0 where
+  pub name : List ℕ
+  pub named : script_named words ≡ Some name
+  pub read : List ℕ
+  pub told : tells name ≡ text read
+  pub short : length read ≤ 16_777_216
+  pub spelled : SpellsScript read script
+  pub within : over_of script ≡ None
+  pub valid : IsValid script.task script.plan
+
+-- the count of faults didn't rise
+abbrev pub IsFaultless : ℕ → ℕ → Type 0
+IsFaultless before after = Rose before after → ⊥
+
+-- the run was done, or memory was wanting
+abbrev pub IsDoneOrNoMemory : Status → Type 0
+IsDoneOrNoMemory status.Done = Unit {0}
+IsDoneOrNoMemory status.NoMemory = Unit {0}
+IsDoneOrNoMemory other = ⊥

@@ -1,14 +1,22 @@
 -- The texts that are written, byte for byte.
-use Rattle.std.specs.Prelude.{ℕ, Bool, true, false, List, [], ◌∷◌, ◌++◌, Option, Some, None, codes, decimal, count_by, unwrap_or}
+use Rattle.std.specs.Prelude.{ℕ, ◌+◌, Bool, true, false, List, [], ◌∷◌, ◌++◌, Option, Some, None, Result, Ok, Err, codes, decimal, count_by, unwrap_or}
 use Rattle.std.specs.List.{slice_get}
 use Rattle.bd_base.specs.declared.text_err.Cause.{Cause}
 use Rattle.bd_base.specs.declared.text_err.Cause.TheVariants as cause
 use Rattle.bd_base.specs.declared.text_err.Limit.{Limit}
 use Rattle.bd_base.specs.declared.text_err.Limit.TheVariants as limit
+use Rattle.bd_links.specs.declared.parts.Fault.{Fault}
+use Rattle.bd_links.specs.declared.parts.Fault.TheVariants as fault
 use Rattle.bd_task.specs.TaskView.{TaskView}
+use Rattle.bd_task.specs.declared.ground.Action.{Action}
 use Rattle.bd_task.specs.Valid.{cost_of, Break, step_lacks, goal_lacks}
+use Rattle.bd_tree.specs.declared.node.Node.{Node}
 use Rattle.bd_tree.specs.Tree.{listed_of}
-use Rattle.plan_core.specs.Core.{is_replacement}
+use Rattle.plan_core.specs.Core.{State, opened, applied, is_replacement}
+use Rattle.plan_core.specs.declared.offer.Offer.{Offer}
+use Rattle.plan_core.specs.declared.offer.Offer.TheVariants.{Replace}
+use Rattle.plan_core.specs.declared.refusal.Refusal.{Refusal}
+use Rattle.plan_core.specs.declared.refusal.Refusal.TheVariants as refusal
 use Rattle.bd_top.specs.declared.record.End.{End}
 use Rattle.bd_top.specs.declared.record.End.TheVariants.{Script}
 use Rattle.bd_top.specs.declared.record.RunRecord.{RunRecord}
@@ -39,9 +47,71 @@ summary_of run =
     ++ counted (codes "; rebuilds ") 0
     ++ end_line run.end
 
+-- what a run's end closes with: the summary, where it has an end
+abbrev pub closing_by : Option End → List ℕ → List ℕ
+closing_by None summary = []
+closing_by (Some end) summary = summary
+
+abbrev pub shown : List ℕ → List ℕ
+shown name = codes "(" ++ name ++ codes ")"
+
 -- a fact by its name, in parentheses
 abbrev pub shown_fact : TaskView → ℕ → List ℕ
-shown_fact task f = codes "(" ++ unwrap_or (slice_get task.facts f) [] ++ codes ")"
+shown_fact task f = shown (unwrap_or (slice_get task.facts f) [])
+
+abbrev pub name_by : Option Action → List ℕ
+name_by None = []
+name_by (Some a) = a.name
+
+-- the actions of a list, a line each
+abbrev pub plan_lines : TaskView → List ℕ → List ℕ
+plan_lines task [] = []
+plan_lines task (a ∷ list) = shown (name_by (slice_get task.actions a)) ++ newline ++ plan_lines task list
+
+-- the plan that a tree lists, with its place and its cost
+abbrev pub better_of : TaskView → ℕ → Node → List ℕ
+better_of task place tree = counted (codes "; place ") place ++ plan_lines task (listed_of tree) ++ counted (codes "; cost = ") (cost_of task (listed_of tree))
+
+-- the better texts of the replacements of a history, which follows so many entries and the state that they led to
+abbrev pub better_texts : TaskView → ℕ → State → List Offer → List ℕ
+better_texts task place state [] = []
+better_texts task place state (Replace window list ∷ rest) =
+    better_of task (place + 1) (applied (Replace window list) state).tree ++ better_texts task (place + 1) (applied (Replace window list) state) rest
+
+-- why a tree isn't sound
+abbrev pub fault_text : TaskView → Fault → List ℕ
+fault_text task (fault.Inside block child f) = codes "Inside " ++ decimal block ++ codes " " ++ decimal child ++ codes " " ++ shown_fact task f
+fault_text task (fault.Need f) = codes "Need " ++ shown_fact task f
+fault_text task (fault.Goal f) = codes "Goal " ++ shown_fact task f
+
+-- a refusal by its number, its name and its fields
+abbrev pub refusal_text : TaskView → Refusal → List ℕ
+refusal_text task (refusal.Closed replaced entries) = codes "1 Closed " ++ decimal replaced ++ codes " " ++ decimal entries
+refusal_text task (refusal.NoAction number) = codes "2 NoAction " ++ decimal number
+refusal_text task refusal.Gone = codes "3 Gone"
+refusal_text task refusal.Split = codes "4 Split"
+refusal_text task (refusal.NotCheaper old new) = codes "5 NotCheaper " ++ decimal old ++ codes " " ++ decimal new
+refusal_text task (refusal.TooLong steps) = codes "6 TooLong " ++ decimal steps
+refusal_text task (refusal.Unlinked f) = codes "7 Unlinked " ++ fault_text task f
+refusal_text task refusal.NoMemory = []
+
+-- why the offer with this number, from 1, is refused
+abbrev pub reply_line : TaskView → ℕ → Refusal → List ℕ
+reply_line task number why = codes "offer " ++ decimal number ++ codes ": refused " ++ refusal_text task why ++ newline
+
+-- the reply texts of the refused offers, of which the first has the number
+abbrev pub reply_texts : TaskView → ℕ → List (Result ℕ Refusal) → List ℕ
+reply_texts task number [] = []
+reply_texts task number (Ok place ∷ rest) = reply_texts task (number + 1) rest
+reply_texts task number (Err why ∷ rest) = reply_line task number why ++ reply_texts task (number + 1) rest
+
+-- what a run puts to standard output: the better texts of its history, and then the summary, where it has an end
+abbrev pub printed_of : RunRecord → List ℕ
+printed_of run = better_texts run.task 0 (opened run.start) run.history ++ closing_by run.end (summary_of run)
+
+-- what a run puts to standard error
+abbrev pub noted_of : RunRecord → List ℕ
+noted_of run = reply_texts run.task 1 run.replies
 
 -- why a list is no plan
 abbrev pub invalid_line : TaskView → Break → List ℕ

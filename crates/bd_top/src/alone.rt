@@ -1,39 +1,36 @@
-ghost use Rattle.std.specs.Prelude.{◌≡◌, ℕ, ◌<◌, ◌≤◌, ◌^◌, ◌++◌, List, Some, All, IfOk, IsTrue, MatchResult, map, string_bytes, length};
+ghost use Rattle.std.specs.Prelude.{◌≡◌, ℕ, ◌<◌, ◌≤◌, List, [], All, IfOk, map, string_bytes, length, vec_capacity};
 ghost use Rattle.bd_task.specs.Valid.{IsValid};
-ghost use Rattle.bd_links.specs.Sound.{are_below};
-ghost use Rattle.bd_tree.specs.Tree.{nodes_of};
-ghost use Rattle.bd_top.specs.Run.{Ends, IsSummed, run_of};
+ghost use Rattle.bd_tree.specs.Chain.{chain_of};
+ghost use Rattle.plan_core.specs.Core.{opening};
+ghost use Rattle.plan_core.specs.Law.{IsLawful, IsPrintable};
+ghost use Rattle.plan_core.specs.Replies.{IsLent};
+ghost use Rattle.script_text.specs.declared.script.Script.{Script};
+ghost use Rattle.bd_top.specs.Prepared.{IsRunnable};
+ghost use Rattle.bd_top.specs.Run.{Ends, Finishes, IsDoneOrNoMemory, IsFaultless, IsGood, Replays, opening_of, record_of, status_of};
 
 use crate::prepare::{Prepared, prepare_words};
-use crate::record::{End, RunRecord};
+use crate::record::{End, Reply, RunRecord};
+use crate::replay::{Stop, make_offers, put_text};
 use crate::status::{Ended, Status};
 use crate::summary::summary_text;
-use bd_base::{FromItems, Items, NoMemory, Shelf, Sink};
+use bd_base::{ActionId, FromItems, Items, NoMemory, Shelf, Sink};
+use bd_task::Task;
 use bd_tree::Tree;
-use plan_core::{BeginErr, Core};
+use plan_core::{BeginErr, Core, Offer};
 use script_text::Script;
 use std::alloc::Global;
 
-// The run of a script without offers.
-fn recorded(alloc: Global, script: Script) -> Result<RunRecord, NoMemory>
-    requires valid { IsValid script.task script.plan }
-    requires in_range { All (λ a. a < length script.task.actions) script.plan }
-    requires few { length script.plan ≤ 2_000 }
-    requires stops { (0 < script.stop) × (script.stop ≤ 1_000_000) }
-    ensures { IfOk result (λ run. run ≡ run_of script) }
+// A core that opens on the chain of a script's plan.
+fn opened(alloc: Global, task: Task, plan: &[ActionId], stop: u32) -> Result<Core, NoMemory>
+    requires valid { IsValid task plan.now }
+    requires in_range { All (λ a. a < length task.actions) plan.now }
+    requires few { length plan.now ≤ 2_000 }
+    requires stops { (0 < stop) × (stop ≤ 1_000_000) }
+    ensures { IfOk result (λ core. core ≡ opening task (chain_of plan.now) stop) }
 {
-    let start = Tree::chain(alloc, script.plan.as_slice())?;
-    match Core::begin(alloc, script.task, start, script.stop) {
-        Ok(core) => {
-            let (task, start, history, tree) = core.into_parts();
-            Ok(RunRecord {
-                task,
-                start,
-                history: Items::of(history),
-                tree,
-                end: Some(End::Script),
-            })
-        }
+    let start = Tree::chain(alloc, plan)?;
+    match Core::begin(alloc, task, start, stop) {
+        Ok(core) => Ok(core),
         // The chain of a valid plan is sound.
         Err(BeginErr::Unsound(_)) => {
             prove!(false);
@@ -43,24 +40,142 @@ fn recorded(alloc: Global, script: Script) -> Result<RunRecord, NoMemory>
     }
 }
 
-// Puts the summary of a run.
-fn summed<S: Sink>(alloc: Global, run: RunRecord, out: &mut S) -> Ended
-    requires start { IsTrue (are_below (length run.task.actions) run.start) }
-    requires tree { IsTrue (are_below (length run.task.actions) run.tree) }
-    requires few_start { nodes_of run.start < 2 ^ 32 }
-    requires few_tree { nodes_of run.tree < 2 ^ 32 }
-    ensures { IsSummed run (S.told out.old) (S.told out.new) result.status result.run }
+// The record of a core that some first offers led to, with their replies.
+fn recorded(core: Core, offers: &[Offer], replies: Vec<Reply>) -> RunRecord
+    ensures recorded { result ≡ record_of offers.now replies.items core }
+    ensures lawful { IsLawful core }
+    ensures start { IsPrintable result.task result.start }
+    ensures tree { IsPrintable result.task result.tree }
 {
-    let status = match summary_text(alloc, &run) {
-        Err(NoMemory) => Status::NoMemory,
-        Ok(text) => match out.put(text.as_slice()) {
-            Ok(()) => Status::Done,
-            Err(_) => Status::WriteFault,
-        },
+    let end = if replies.len() == offers.len() {
+        Some(End::Script)
+    } else {
+        None
+    };
+    let (task, start, history, tree) = core.into_parts();
+    RunRecord {
+        task,
+        start,
+        history: Items::of(history),
+        tree,
+        replies: Items::of(replies),
+        end,
+    }
+}
+
+// What a run ends with that stopped before its end.
+fn stopped(stop: Stop, run: RunRecord) -> Ended
+    ensures status { result.status ≡ status_of stop }
+    ensures run { result.run ≡ Some run }
+{
+    let status = match stop {
+        Stop::WriteFault => Status::WriteFault,
+        Stop::NoMemory => Status::NoMemory,
     };
     Ended {
         status,
         run: Some(run),
+    }
+}
+
+// Puts the summary of a run whose offers were all made.
+fn finished<S: Sink>(alloc: Global, made: Result<(), Stop>, run: RunRecord, out: &mut S) -> Ended
+    requires start { IsPrintable run.task run.start }
+    requires tree { IsPrintable run.task run.tree }
+    ensures finishes { Finishes made run (record { before = S.told out.old; after = S.told out.new; faults = S.faults out.old; faults_after = S.faults out.new }) result.status result.run }
+    ensures later { S.faults out.old ≤ S.faults out.new }
+{
+    match made {
+        Err(stop) => stopped(stop, run),
+        Ok(()) => match put_text(out, summary_text(alloc, &run)) {
+            Err(stop) => stopped(stop, run),
+            Ok(()) => Ended {
+                status: Status::Done,
+                run: Some(run),
+            },
+        },
+    }
+}
+
+// Makes the offers on a core that has just begun, puts what comes of them, and then the summary.
+fn replayed<S: Sink, E: Sink>(
+    alloc: Global,
+    core: Core,
+    offers: &[Offer],
+    replies: Vec<Reply>,
+    out: &mut S,
+    notes: &mut E,
+) -> Ended
+    requires fresh { core.history ≡ [] }
+    requires none { replies.items ≡ [] }
+    requires room { length offers.now ≤ vec_capacity replies }
+    requires few { length offers.now ≤ 1_000_000 }
+    requires lent { All IsLent offers.now }
+    ensures { Replays core offers.now
+        (record { before = S.told out.old; after = S.told out.new; faults = S.faults out.old; faults_after = S.faults out.new })
+        (record { before = E.told notes.old; after = E.told notes.new; faults = E.faults notes.old; faults_after = E.faults notes.new })
+        result.status result.run }
+{
+    let mut core = core;
+    let mut replies = replies;
+    let made = make_offers(alloc, &mut core, offers, &mut replies, out, notes);
+    let run = recorded(core, offers, replies);
+    finished(alloc, made, run, out)
+}
+
+// The run of a script whose plan is valid. The room for all replies is taken before the first offer.
+fn run_script<S: Sink, E: Sink>(alloc: Global, script: Script, out: &mut S, notes: &mut E) -> Ended
+    requires { IsRunnable script }
+    ensures { Replays (opening_of script) script.offers
+        (record { before = S.told out.old; after = S.told out.new; faults = S.faults out.old; faults_after = S.faults out.new })
+        (record { before = E.told notes.old; after = E.told notes.new; faults = E.faults notes.old; faults_after = E.faults notes.new })
+        result.status result.run }
+{
+    let Script {
+        task,
+        plan,
+        start: _,
+        start_line: _,
+        stop,
+        offers,
+    } = script;
+    let offers = offers.as_slice();
+    let core = opened(alloc, task, plan.as_slice(), stop);
+    let replies = Vec::with_capacity(alloc, offers.len());
+    match (core, replies) {
+        (Ok(core), Ok(replies)) => replayed(alloc, core, offers, replies, out, notes),
+        _ => Ended {
+            status: Status::NoMemory,
+            run: None,
+        },
+    }
+}
+
+// Does what the words ask for.
+fn run_words<H: Shelf, S: Sink, E: Sink>(
+    alloc: Global,
+    words: &[String],
+    shelf: &mut H,
+    out: &mut S,
+    notes: &mut E,
+) -> Ended
+    ensures ends { Ends (map string_bytes words.now) (H.tells shelf.old)
+        (record { faults = H.faults shelf.old; faults_after = H.faults shelf.new; longs = H.longs shelf.old; longs_after = H.longs shelf.new })
+        (record { before = S.told out.old; after = S.told out.new; faults = S.faults out.old; faults_after = S.faults out.new })
+        (record { before = E.told notes.old; after = E.told notes.new; faults = E.faults notes.old; faults_after = E.faults notes.new })
+        result.status result.run }
+    ensures shelf { (n : List ℕ) → H.tells shelf.new n ≡ H.tells shelf.old n }
+{
+    match prepare_words(alloc, words, shelf) {
+        Prepared::Ready(script) => run_script(alloc, script, out, notes),
+        Prepared::Refused { status, line } => {
+            let _ = notes.put(line.as_slice());
+            Ended { status, run: None }
+        }
+        Prepared::NoMemory => Ended {
+            status: Status::NoMemory,
+            run: None,
+        },
     }
 }
 
@@ -73,26 +188,15 @@ pub fn run_alone<H: Shelf, S: Sink, E: Sink>(
     out: &mut S,
     notes: &mut E,
 ) -> Ended
+    // Which words and texts lead to which status and which bytes.
     ensures ends { Ends (map string_bytes words.now) (H.tells shelf.old)
-        (record { out = S.told out.old; out_after = S.told out.new; notes = E.told notes.old; notes_after = E.told notes.new; faults = E.faults notes.old; faults_after = E.faults notes.new })
+        (record { faults = H.faults shelf.old; faults_after = H.faults shelf.new; longs = H.longs shelf.old; longs_after = H.longs shelf.new })
+        (record { before = S.told out.old; after = S.told out.new; faults = S.faults out.old; faults_after = S.faults out.new })
+        (record { before = E.told notes.old; after = E.told notes.new; faults = E.faults notes.old; faults_after = E.faults notes.new })
         result.status result.run }
     ensures shelf { (n : List ℕ) → H.tells shelf.new n ≡ H.tells shelf.old n }
+    // A good script is run, where nothing outside fails.
+    ensures complete { (script : Script) → IsGood (map string_bytes words.now) (H.tells shelf.old) script → IsFaultless (H.faults shelf.old) (H.faults shelf.new) → IsFaultless (S.faults out.old) (S.faults out.new) → IsFaultless (E.faults notes.old) (E.faults notes.new) → IsDoneOrNoMemory result.status }
 {
-    match prepare_words(alloc, words, shelf) {
-        Prepared::Ready(script) => match recorded(alloc, script) {
-            Ok(run) => summed(alloc, run, out),
-            Err(NoMemory) => Ended {
-                status: Status::NoMemory,
-                run: None,
-            },
-        },
-        Prepared::Refused { status, line } => {
-            let _ = notes.put(line.as_slice());
-            Ended { status, run: None }
-        }
-        Prepared::NoMemory => Ended {
-            status: Status::NoMemory,
-            run: None,
-        },
-    }
+    run_words(alloc, words, shelf, out, notes)
 }

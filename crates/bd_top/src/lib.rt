@@ -5,15 +5,21 @@
 #![tactic(auto)]
 
 mod alone;
+mod better;
 mod notes;
 mod prepare;
 mod record;
+mod replay;
+mod reply;
 mod status;
 mod summary;
 mod usage;
+mod writing;
 
 pub use alone::run_alone;
-pub use record::{End, RunRecord};
+pub use better::better_text;
+pub use record::{End, Reply, RunRecord};
+pub use reply::reply_text;
 pub use status::{Ended, File, Status};
 pub use summary::summary_text;
 pub use usage::USAGE;

@@ -1,24 +1,14 @@
 ghost use Rattle.std.specs.Prelude.{◌≡◌, ◌++◌, ◌<◌, IfOk, length};
 ghost use Rattle.bd_task.specs.Valid.{step_lacks, goal_lacks};
 ghost use Rattle.bd_top.specs.Prepared.{IsBrokenLine, HasFact};
-ghost use Rattle.bd_top.specs.Texts.{invalid_line, refused_line, over_line, unread_line, cause_text, file_text, limit_text, unread_text, shown_fact, with_word};
+ghost use Rattle.bd_top.specs.Texts.{invalid_line, refused_line, over_line, unread_line, cause_text, file_text, limit_text, unread_text, with_word};
 
 use crate::File;
-use crate::summary::push_number;
+use crate::writing::{push_fact, push_number};
 use bd_base::{Cause, FactId, FromItems, Items, Limit, NoMemory, Text};
 use bd_task::Task;
 use seq_check::Broken;
 use std::alloc::Global;
-
-fn push_fact(text: &mut Vec<u8>, task: &Task, fact: FactId) -> Result<(), NoMemory>
-    requires { fact < length task.now.facts }
-    ensures { IfOk result (λ _. text.new.items ≡ text.old.items ++ shown_fact task.now fact) }
-{
-    text.extend_from_slice(b"(")?;
-    text.extend_from_slice(task.fact_name(fact))?;
-    text.extend_from_slice(b")")?;
-    Ok(())
-}
 
 // The note for a plan whose action at a place, from 1, lacks a fact.
 fn step_note(alloc: Global, task: &Task, at: u32, fact: FactId) -> Result<Text, NoMemory>

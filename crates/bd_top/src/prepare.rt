@@ -1,7 +1,7 @@
 ghost use Rattle.std.specs.Prelude.{◌≡◌, ℕ, ◌<◌, ◌≤◌, ◌^◌, List, Err, IfOk, IfErr, All, length, MatchResult, map, string_bytes};
 ghost use Rattle.bd_base.specs.Shelf.{Told};
 ghost use Rattle.bd_task.specs.Valid.{IsValid};
-ghost use Rattle.bd_top.specs.Prepared.{Prepares, PreparesNamed, PreparesText, PreparesScript, HasFact, IsFirstBreak};
+ghost use Rattle.bd_top.specs.Prepared.{Prepares, PreparesNamed, PreparesText, PreparesScript, HasFact, IsBounded, IsFirstBreak, Counts, IsUnread};
 ghost use Rattle.script_text.specs.Limits.{Spelled, Answers};
 ghost use Rattle.script_text.specs.Lines.{worded};
 ghost use Rattle.script_text.specs.Reading.{script_at};
@@ -41,8 +41,7 @@ fn refused(status: Status, line: Result<Text, NoMemory>) -> Prepared
 
 // The cost of a script's plan, or its first break.
 fn judged(alloc: Global, script: &Script) -> Result<u64, Broken>
-    requires in_range { All (λ a. a < length script.now.task.actions) script.now.plan }
-    requires few { length script.now.plan ≤ 2_000 }
+    requires { IsBounded script.now }
     ensures valid { IfOk result (λ _. IsValid script.now.task script.now.plan) }
     ensures broken { IfErr result (λ b. IsFirstBreak script.now b) }
     ensures fact { IfErr result (λ b. HasFact (length script.now.task.facts) b) }
@@ -61,9 +60,7 @@ fn broken_plan(alloc: Global, script: &Script, broken: Broken) -> Prepared
 }
 
 fn prepare_script(alloc: Global, script: Script) -> Prepared
-    requires in_range { All (λ a. a < length script.task.actions) script.plan }
-    requires few { length script.plan ≤ 2_000 }
-    requires stops { (0 < script.stop) × (script.stop ≤ 1_000_000) }
+    requires { IsBounded script }
     ensures { PreparesScript script result }
 {
     match judged(alloc, &script) {
@@ -102,7 +99,7 @@ fn prepare_text(alloc: Global, text: &[u8]) -> Prepared
 
 // The refusal of a text that couldn't be read.
 fn unread(alloc: Global, name: &str, missing: bool) -> Prepared
-    ensures { (told : Told) → PreparesNamed name.now told result }
+    ensures { (told : Told) (c : Counts) → IsUnread told c missing → PreparesNamed name.now told c result }
 {
     let line = unread_note(alloc, name.as_bytes(), missing);
     match Text::from_slice(alloc, name.as_bytes()) {
@@ -112,7 +109,8 @@ fn unread(alloc: Global, name: &str, missing: bool) -> Prepared
 }
 
 fn prepare_named<H: Shelf>(alloc: Global, name: &str, shelf: &mut H) -> Prepared
-    ensures prepared { PreparesNamed name.now (H.tells shelf.old name.now) result }
+    ensures prepared { PreparesNamed name.now (H.tells shelf.old name.now)
+        (record { faults = H.faults shelf.old; faults_after = H.faults shelf.new; longs = H.longs shelf.old; longs_after = H.longs shelf.new }) result }
     ensures told { (n : List ℕ) → H.tells shelf.new n ≡ H.tells shelf.old n }
 {
     match shelf.read(alloc, name, TEXT_LIMIT) {
@@ -133,7 +131,8 @@ fn prepare_named<H: Shelf>(alloc: Global, name: &str, shelf: &mut H) -> Prepared
 
 /// Reads and judges what the words name. The shelf still tells what it told.
 pub fn prepare_words<H: Shelf>(alloc: Global, words: &[String], shelf: &mut H) -> Prepared
-    ensures prepared { Prepares (map string_bytes words.now) (H.tells shelf.old) result }
+    ensures prepared { Prepares (map string_bytes words.now) (H.tells shelf.old)
+        (record { faults = H.faults shelf.old; faults_after = H.faults shelf.new; longs = H.longs shelf.old; longs_after = H.longs shelf.new }) result }
     ensures told { (n : List ℕ) → H.tells shelf.new n ≡ H.tells shelf.old n }
 {
     match script_name(words) {

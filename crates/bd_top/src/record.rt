@@ -1,7 +1,10 @@
 use bd_base::Items;
 use bd_task::Task;
 use bd_tree::Tree;
-use plan_core::Offer;
+use plan_core::{Offer, Refusal};
+
+/// What an offer came to: its place in the history, from 1, or why it is refused.
+pub type Reply = Result<u64, Refusal>;
 
 /// Why a run ended.
 #[derive(Clone, Copy, Debug, PartialEq, Eq)]
@@ -17,5 +20,8 @@ pub struct RunRecord {
     pub start: Tree,
     pub history: Items<Offer>,
     pub tree: Tree,
+    /// One for each offer of a script that was made, in their order, the last of them perhaps without its text.
+    pub replies: Items<Reply>,
+    /// `None` where a sink's fault or want of memory stopped the run before its last offer was made.
     pub end: Option<End>,
 }

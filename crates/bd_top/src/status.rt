@@ -22,7 +22,7 @@ pub enum Status {
     PlanInvalid(Broken),
     /// The words are no command.
     Usage,
-    /// A text is none of its format: the first cause and its place.
+    /// A text is none of its format: the first cause and its place, in a script the line from 1.
     TextRefused {
         file: File,
         place: u32,

@@ -1,11 +1,28 @@
-use crate::{End, USAGE, run_alone};
-use bd_base::{MemShelf, MemSink, Text};
+ghost use Rattle.std.specs.Prelude.{◌≡◌, length};
+
+use crate::writing::push_number;
+use crate::{End, USAGE, reply_text, run_alone};
+use bd_base::{FactSet, MemShelf, MemSink, NoMemory, Text};
+use bd_task::Task;
+use plan_core::Refusal;
 use std::alloc::{AllocError, Global};
 use std::test::Fail;
 
 // Nine actions over five letters, and what stands behind them is left out.
 const LETTERS: &str =
     "bdpo-script 1\nfact (a)\nfact (b)\nfact (c)\nfact (x)\nfact (y)\naction (ab) 3 pre (a) add (b) del (a)\naction (ba) 3 pre (b) add (a) del (b)\naction (ac) 2 pre (a) add (c) del (a)\naction (ca) 2 pre (c) add (a) del (c)\naction (bc) 1 pre (b) add (c) del (b)\naction (get1) 1 pre (b) add (x) del\naction (get2) 1 pre (c) add (y) del\naction (pip) 0 pre add del\naction (flip) 1 pre add (a) del (a)\ninit (a)\n";
+
+// A plan of five steps, behind the letters.
+const PLAN: &str = "goal (x) (y)\nplan (ab) (get1) (ba) (ac) (get2)\n";
+
+// The way from b to c over a, in one step.
+const DIRECT: &str = "replace 0 early 3:(ba) 4:(ac) with (bc)\n";
+
+const DIRECT_OUT: &str =
+    "; place 1\n(ab)\n(get1)\n(bc)\n(get2)\n; cost = 6\n; start 10\n; final 6\n; replacements 1\n; tightenings 0\n; rebuilds 0\n; end script\n";
+
+const NO_BETTER: &str =
+    "; start 10\n; final 10\n; replacements 0\n; tightenings 0\n; rebuilds 0\n; end script\n";
 
 // What a run came to.
 #[derive(Drop)]
@@ -15,6 +32,15 @@ struct Written {
     notes: Vec<u8>,
     ended: bool,
     entries: usize,
+    replies: usize,
+}
+
+// Which calls of the outside fail, counted from 1, and after how many bytes a put fails.
+#[derive(Clone, Copy)]
+struct Fails<'a> {
+    reads: &'a [u64],
+    outs: &'a [(u64, usize)],
+    notes: &'a [(u64, usize)],
 }
 
 fn strings(alloc: Global, words: &[&str]) -> Result<Vec<String>, AllocError> {
@@ -33,24 +59,40 @@ fn letters(alloc: Global, lines: &str) -> Result<Vec<u8>, AllocError> {
 }
 
 // Runs these words over a shelf that has this text under the name `s`.
-fn run(alloc: Global, words: &[&str], text: &[u8]) -> Result<Written, Fail> {
+fn run_failing(
+    alloc: Global,
+    words: &[&str],
+    text: &[u8],
+    fails: &Fails<'_>,
+) -> Result<Written, NoMemory> {
     let words = strings(alloc, words)?;
     let names = vec![in alloc; Text::from_slice(alloc, b"s")?]?;
     let texts = vec![in alloc; Text::from_slice(alloc, text)?]?;
-    let mut shelf = MemShelf::new(names, texts, Vec::new(alloc));
-    let mut out = MemSink::new(alloc, 65536, Vec::new(alloc)).or(Err("no room"))?;
-    let mut notes = MemSink::new(alloc, 65536, Vec::new(alloc)).or(Err("no room"))?;
+    let mut shelf = MemShelf::new(names, texts, Vec::from_slice(alloc, fails.reads)?);
+    let mut out = MemSink::new(alloc, 65536, Vec::from_slice(alloc, fails.outs)?)?;
+    let mut notes = MemSink::new(alloc, 65536, Vec::from_slice(alloc, fails.notes)?)?;
     let ended = run_alone(alloc, &words, &mut shelf, &mut out, &mut notes);
+    let (entries, replies) = match &ended.run {
+        Some(run) => (run.history.as_slice().len(), run.replies.as_slice().len()),
+        None => (9, 9),
+    };
     Ok(Written {
         status: ended.status.number(),
         out: Vec::from_slice(alloc, out.written())?,
         notes: Vec::from_slice(alloc, notes.written())?,
         ended: matches!(&ended.run, Some(run) if run.end == Some(End::Script)),
-        entries: match &ended.run {
-            Some(run) => run.history.as_slice().len(),
-            None => 9,
-        },
+        entries,
+        replies,
     })
+}
+
+fn run(alloc: Global, words: &[&str], text: &[u8]) -> Result<Written, NoMemory> {
+    let fails = Fails {
+        reads: &[],
+        outs: &[],
+        notes: &[],
+    };
+    run_failing(alloc, words, text, &fails)
 }
 
 // Whether the letters with these lines lead to this status and these bytes.
@@ -71,21 +113,172 @@ fn is_usage(alloc: Global, words: &[&str]) -> Result<bool, Fail> {
     Ok(written.status == 2 && written.out.is_empty() && written.notes.as_slice() == USAGE)
 }
 
+// Whether these offers on the plan lead to these bytes.
+fn offers_lead_to(alloc: Global, offers: &str, out: &str, notes: &str) -> Result<bool, Fail> {
+    let mut lines = String::from_str(alloc, PLAN)?;
+    lines.push_str(offers)?;
+    lines.push_str("end\n")?;
+    leads_to(alloc, lines.as_str(), 0, out, notes)
+}
+
 #[test]
 fn a_script_without_offers_is_summed_up(rt: HostRuntime) -> Result<(), Fail> {
+    assert!(rt; offers_lead_to(rt.alloc(), "", NO_BETTER, "")?);
+    Ok(())
+}
+
+#[test]
+fn a_cheaper_plan_is_put_with_its_place(rt: HostRuntime) -> Result<(), Fail> {
+    assert!(rt; offers_lead_to(rt.alloc(), DIRECT, DIRECT_OUT, "")?);
+    Ok(())
+}
+
+#[test]
+fn a_refused_offer_gets_its_line(rt: HostRuntime) -> Result<(), Fail> {
     let alloc = rt.alloc();
-    let text = letters(
-        alloc,
-        "goal (x) (y)\nplan (ab) (get1) (ba) (ac) (get2)\nend\n",
-    )?;
-    let written = run(alloc, &["replay", "s"], &text)?;
-    let summary =
-        b"; start 10\n; final 10\n; replacements 0\n; tightenings 0\n; rebuilds 0\n; end script\n";
-    assert_eq!(rt; written.status, 0);
-    assert_eq!(rt; written.out.as_slice(), summary.as_slice());
-    assert_eq!(rt; written.notes.as_slice(), b"".as_slice());
-    assert!(rt; written.ended);
-    assert_eq!(rt; written.entries, 0);
+    let refused = [
+        (
+            "replace 0 early 3:(ba) 4:(ac) with (ba) (ac)\n",
+            "offer 1: refused 5 NotCheaper 5 5\n",
+        ),
+        (
+            "replace 0 early 3:(ba) 4:(ac) with\n",
+            "offer 1: refused 7 Unlinked Need (c)\n",
+        ),
+        (
+            "replace 0 late 1:(ab) 3:(ba) with\n",
+            "offer 1: refused 4 Split\n",
+        ),
+        (
+            "replace 0 early 2:(get1) with (pip)\n",
+            "offer 1: refused 7 Unlinked Goal (x)\n",
+        ),
+        (
+            "replace 0 early 3:(ba) 4:(ac) with (ac)\n",
+            "offer 1: refused 7 Unlinked Inside 0 6 (a)\n",
+        ),
+    ];
+    for row in refused {
+        assert!(rt;
+            offers_lead_to(alloc, row.0, NO_BETTER, row.1)?,
+            "{:?}",
+            row.0
+        );
+    }
+    Ok(())
+}
+
+#[test]
+fn an_offer_that_comes_twice_is_gone(rt: HostRuntime) -> Result<(), Fail> {
+    let twice =
+        "replace 0 early 3:(ba) 4:(ac) with (bc)\nreplace 0 early 3:(ba) 4:(ac) with (bc)\n";
+    assert!(rt; offers_lead_to(rt.alloc(), twice, DIRECT_OUT, "offer 2: refused 3 Gone\n")?);
+    Ok(())
+}
+
+#[test]
+fn a_core_closes_after_its_stop(rt: HostRuntime) -> Result<(), Fail> {
+    let twice =
+        "stop 1\nreplace 0 early 3:(ba) 4:(ac) with (bc)\nreplace 0 early 3:(ba) 4:(ac) with (bc)\n";
+    assert!(rt;
+        offers_lead_to(
+            rt.alloc(),
+            twice,
+            DIRECT_OUT,
+            "offer 2: refused 1 Closed 1 1\n"
+        )?
+    );
+    Ok(())
+}
+
+#[test]
+fn refused_offers_are_counted_with_the_others(rt: HostRuntime) -> Result<(), Fail> {
+    let three =
+        "replace 0 early 3:(ba) 4:(ac) with (ba) (ac)\nreplace 0 early 3:(ba) 4:(ac) with (bc)\nreplace 0 early 3:(ba) 4:(ac) with (bc)\n";
+    assert!(rt;
+        offers_lead_to(
+            rt.alloc(),
+            three,
+            DIRECT_OUT,
+            "offer 1: refused 5 NotCheaper 5 5\noffer 3: refused 3 Gone\n"
+        )?
+    );
+    Ok(())
+}
+
+#[test]
+fn each_place_has_its_own_plan(rt: HostRuntime) -> Result<(), Fail> {
+    let two =
+        "replace 0 early 3:(ba) 4:(ac) with (flip) (ac)\nreplace 0 early 6:(flip) 7:(ac) with (bc)\n";
+    let out =
+        "; place 1\n(ab)\n(get1)\n(flip)\n(ac)\n(get2)\n; cost = 8\n; place 2\n(ab)\n(get1)\n(bc)\n(get2)\n; cost = 6\n; start 10\n; final 6\n; replacements 2\n; tightenings 0\n; rebuilds 0\n; end script\n";
+    assert!(rt; offers_lead_to(rt.alloc(), two, out, "")?);
+    Ok(())
+}
+
+// The title, the word so many times, and the end.
+fn repeated(
+    alloc: Global,
+    title: &str,
+    word: &str,
+    times: usize,
+    end: &str,
+) -> Result<String, AllocError> {
+    let mut text = String::from_str(alloc, title)?;
+    for _ in 0..times {
+        text.push_str(word)?;
+    }
+    text.push_str(end)?;
+    Ok(text)
+}
+
+// Whether the first of three steps, replaced by so many that do nothing, leads to these bytes.
+fn idle_steps_lead_to(alloc: Global, steps: usize, out: &str, notes: &str) -> Result<bool, Fail> {
+    let title = "goal (y)\nplan (flip) (ac) (get2)\nreplace 0 early 1:(flip) with";
+    let lines = repeated(alloc, title, " (pip)", steps, "\nend\n")?;
+    leads_to(alloc, lines.as_str(), 0, out, notes)
+}
+
+#[test]
+fn too_many_steps_are_refused(rt: HostRuntime) -> Result<(), Fail> {
+    let out =
+        "; start 4\n; final 4\n; replacements 0\n; tightenings 0\n; rebuilds 0\n; end script\n";
+    assert!(rt; idle_steps_lead_to(rt.alloc(), 4_095, out, "offer 1: refused 6 TooLong 4097\n")?);
+    Ok(())
+}
+
+#[test]
+fn as_many_steps_as_may_be_are_put(rt: HostRuntime) -> Result<(), Fail> {
+    let alloc = rt.alloc();
+    let end =
+        "(ac)\n(get2)\n; cost = 3\n; start 4\n; final 3\n; replacements 1\n; tightenings 0\n; rebuilds 0\n; end script\n";
+    let out = repeated(alloc, "; place 1\n", "(pip)\n", 4_094, end)?;
+    assert!(rt; idle_steps_lead_to(alloc, 4_094, out.as_str(), "")?);
+    Ok(())
+}
+
+// A task without facts and actions.
+fn empty_task(alloc: Global) -> Task
+    ensures facts { length result.facts ≡ 0 }
+    ensures actions { length result.actions ≡ 0 }
+{
+    Task::new(
+        Vec::new(alloc),
+        Vec::new(alloc),
+        FactSet::new(),
+        FactSet::new(),
+    )
+}
+
+#[test]
+fn an_action_that_is_none_is_told_by_its_number(rt: HostRuntime) -> Result<(), Fail> {
+    let alloc = rt.alloc();
+    let why = Refusal::NoAction { number: 9 };
+    let line = reply_text(alloc, &empty_task(alloc), 1, &why)?;
+    assert_eq!(rt;
+        line.as_slice(),
+        b"offer 1: refused 2 NoAction 9\n".as_slice()
+    );
     Ok(())
 }
 
@@ -145,7 +338,7 @@ fn a_text_that_is_no_script_is_refused(rt: HostRuntime) -> Result<(), Fail> {
     assert!(rt;
         leads_to(
             alloc,
-            "goal\nplan\nstop 1\nend\n",
+            "goal\nplan\nrebuild\nend\n",
             3,
             "",
             "script: 19: Later\n"
@@ -182,5 +375,183 @@ fn a_name_that_is_not_there_is_missing(rt: HostRuntime) -> Result<(), Fail> {
     let written = run(rt.alloc(), &["replay", "-t"], b"")?;
     assert_eq!(rt; written.status, 4);
     assert_eq!(rt; written.notes.as_slice(), b"-t: missing\n".as_slice());
+    Ok(())
+}
+
+// Runs the letters with these lines, where calls fail.
+fn run_lines(alloc: Global, lines: &str, fails: &Fails<'_>) -> Result<Written, NoMemory> {
+    let text = letters(alloc, lines)?;
+    run_failing(alloc, &["replay", "s"], &text, fails)
+}
+
+#[test]
+fn a_summary_that_fails_is_a_write_fault(rt: HostRuntime) -> Result<(), Fail> {
+    let fails = Fails {
+        reads: &[],
+        outs: &[(1, 3)],
+        notes: &[],
+    };
+    let lines = "goal (x) (y)\nplan (ab) (get1) (ba) (ac) (get2)\nend\n";
+    let written = run_lines(rt.alloc(), lines, &fails)?;
+    assert_eq!(rt; written.status, 5);
+    assert_eq!(rt; written.out.as_slice(), b"; s".as_slice());
+    assert_eq!(rt; written.notes.as_slice(), b"".as_slice());
+    assert!(rt; written.ended);
+    Ok(())
+}
+
+#[test]
+fn a_better_plan_that_fails_is_a_write_fault(rt: HostRuntime) -> Result<(), Fail> {
+    let fails = Fails {
+        reads: &[],
+        outs: &[(1, 13)],
+        notes: &[],
+    };
+    let lines =
+        "goal (x) (y)\nplan (ab) (get1) (ba) (ac) (get2)\nreplace 0 early 3:(ba) 4:(ac) with (bc)\nend\n";
+    let written = run_lines(rt.alloc(), lines, &fails)?;
+    assert_eq!(rt; written.status, 5);
+    assert_eq!(rt; written.out.as_slice(), b"; place 1\n(ab".as_slice());
+    assert_eq!(rt; written.entries, 1);
+    assert_eq!(rt; written.replies, 1);
+    assert!(rt; written.ended);
+    Ok(())
+}
+
+#[test]
+fn a_reply_that_fails_ends_the_run_at_its_offer(rt: HostRuntime) -> Result<(), Fail> {
+    let fails = Fails {
+        reads: &[],
+        outs: &[],
+        notes: &[(1, 5)],
+    };
+    let lines =
+        "goal (x) (y)\nplan (ab) (get1) (ba) (ac) (get2)\nreplace 0 early 3:(ba) 4:(ac) with (ba) (ac)\nreplace 0 early 3:(ba) 4:(ac) with (bc)\nend\n";
+    let written = run_lines(rt.alloc(), lines, &fails)?;
+    assert_eq!(rt; written.status, 5);
+    assert_eq!(rt; written.out.as_slice(), b"".as_slice());
+    assert_eq!(rt; written.notes.as_slice(), b"offer".as_slice());
+    assert_eq!(rt; written.entries, 0);
+    assert_eq!(rt; written.replies, 1);
+    assert!(rt; !written.ended);
+    Ok(())
+}
+
+#[test]
+fn a_note_that_fails_leaves_its_status(rt: HostRuntime) -> Result<(), Fail> {
+    let fails = Fails {
+        reads: &[],
+        outs: &[],
+        notes: &[(1, 4)],
+    };
+    let written = run_lines(rt.alloc(), "goal (x)\nplan\nend\n", &fails)?;
+    assert_eq!(rt; written.status, 1);
+    assert_eq!(rt; written.notes.as_slice(), b"plan".as_slice());
+    Ok(())
+}
+
+#[test]
+fn a_read_that_fails_is_a_read_fault(rt: HostRuntime) -> Result<(), Fail> {
+    let fails = Fails {
+        reads: &[1],
+        outs: &[],
+        notes: &[],
+    };
+    let lines =
+        "goal (x) (y)\nplan (ab) (get1) (ba) (ac) (get2)\nreplace 0 early 3:(ba) 4:(ac) with (bc)\nend\n";
+    let written = run_lines(rt.alloc(), lines, &fails)?;
+    assert_eq!(rt; written.status, 4);
+    assert_eq!(rt; written.out.as_slice(), b"".as_slice());
+    assert_eq!(rt; written.notes.as_slice(), b"s: cannot read\n".as_slice());
+    Ok(())
+}
+
+// A text that couldn't be read has no cause of its own, though it would have one.
+#[test]
+fn the_read_comes_before_the_text(rt: HostRuntime) -> Result<(), Fail> {
+    let fails = Fails {
+        reads: &[1],
+        outs: &[],
+        notes: &[],
+    };
+    let written = run_lines(rt.alloc(), "goal (z)\n", &fails)?;
+    assert_eq!(rt; written.status, 4);
+    Ok(())
+}
+
+#[test]
+fn the_words_come_before_the_read(rt: HostRuntime) -> Result<(), Fail> {
+    assert!(rt; is_usage(rt.alloc(), &["replay", "t", "s"])?);
+    Ok(())
+}
+
+#[test]
+fn a_text_past_its_limit_is_told(rt: HostRuntime) -> Result<(), Fail> {
+    let alloc = rt.alloc();
+    let text = vec![in alloc; b' '; 16_777_217]?;
+    let written = run(alloc, &["replay", "s"], &text)?;
+    assert_eq!(rt; written.status, 6);
+    assert_eq!(rt;
+        written.notes.as_slice(),
+        b"over limit: text 16777217\n".as_slice()
+    );
+    Ok(())
+}
+
+// Whether the letters with these lines lead to this status and this note.
+fn is_told(alloc: Global, lines: &str, status: i32, note: &str) -> Result<bool, Fail> {
+    leads_to(alloc, lines, status, "", note)
+}
+
+#[test]
+fn a_plan_past_its_limit_is_told(rt: HostRuntime) -> Result<(), Fail> {
+    let alloc = rt.alloc();
+    let most = repeated(alloc, "goal\nplan", " (pip)", 2_000, "\nend\n")?;
+    let text = letters(alloc, most.as_str())?;
+    assert_eq!(rt; run(alloc, &["replay", "s"], &text)?.status, 0);
+    let more = repeated(alloc, "goal\nplan", " (pip)", 2_001, "\nend\n")?;
+    assert!(rt; is_told(alloc, more.as_str(), 6, "over limit: steps 2001\n")?);
+    Ok(())
+}
+
+// The limits come behind the whole text, and before the plan is judged.
+#[test]
+fn the_text_comes_before_its_limits(rt: HostRuntime) -> Result<(), Fail> {
+    let alloc = rt.alloc();
+    let bad = repeated(alloc, "goal\nplan", " (pip)", 2_001, "\nend\n\n")?;
+    assert!(rt; is_told(alloc, bad.as_str(), 3, "script: 20: Shape\n")?);
+    let invalid = repeated(alloc, "goal\nplan", " (get1)", 2_001, "\nend\n")?;
+    assert!(rt; is_told(alloc, invalid.as_str(), 6, "over limit: steps 2001\n")?);
+    Ok(())
+}
+
+// A script of so many facts, an action that does nothing, and a plan of so many steps.
+fn wide_script(alloc: Global, facts: u64, steps: usize) -> Result<Vec<u8>, NoMemory> {
+    let mut text = Vec::from_slice(alloc, b"bdpo-script 1\n")?;
+    for fact in 0..facts {
+        text.extend_from_slice(b"fact (")?;
+        push_number(&mut text, fact)?;
+        text.extend_from_slice(b")\n")?;
+    }
+    text.extend_from_slice(b"action (pip) 0 pre add del\ninit\ngoal\nplan")?;
+    for _ in 0..steps {
+        text.extend_from_slice(b" (pip)")?;
+    }
+    text.extend_from_slice(b"\nend\n")?;
+    Ok(text)
+}
+
+#[test]
+fn facts_past_their_limit_are_told_first(rt: HostRuntime) -> Result<(), Fail> {
+    let alloc = rt.alloc();
+    let text = wide_script(alloc, 262_144, 1)?;
+    assert_eq!(rt; run(alloc, &["replay", "s"], &text)?.status, 0);
+    let text = wide_script(alloc, 262_145, 2_001)?;
+    let written = run(alloc, &["replay", "s"], &text)?;
+    assert_eq!(rt; written.status, 6);
+    assert_eq!(rt;
+        written.notes.as_slice(),
+        b"over limit: facts 262145\n".as_slice()
+    );
     Ok(())
 }

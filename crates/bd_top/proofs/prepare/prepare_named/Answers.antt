@@ -1,7 +1,10 @@
+use Rattle.bd_top.proofs.UnreadLemmas.{missing_told, failed_told}
 use Rattle.bd_top.proofs.prepare.prepare_named.Goals as goal
 
 pub returns-in-Err-Missing-clause-prepared : goal.returns-in-Err-Missing-clause-prepared
-returns-in-Err-Missing-clause-prepared g c = c.unread.ensures (g.H.Shelf.tells c.args.shelf.now c.args.name.now)
+returns-in-Err-Missing-clause-prepared g c =
+    c.unread.ensures (g.H.Shelf.tells c.args.shelf.now c.args.name.now) _ (missing_told _ _ _ _ _ _ c.in-Err-Missing.field-0-is c.in-Err-Missing.ensures.given)
 
 pub returns-in-Err-Failed-clause-prepared : goal.returns-in-Err-Failed-clause-prepared
-returns-in-Err-Failed-clause-prepared g c = c.unread-in-Err-Failed.ensures (g.H.Shelf.tells c.args.shelf.now c.args.name.now)
+returns-in-Err-Failed-clause-prepared g c =
+    c.unread-in-Err-Failed.ensures (g.H.Shelf.tells c.args.shelf.now c.args.name.now) _ (failed_told _ _ _ _ _ _ c.in-Err-Failed.field-0-is c.in-Err-Failed.ensures.given)

@@ -1,0 +1,112 @@
+-- A good script is run, where nothing outside fails: every other status contradicts what it comes with.
+use Rattle.std.proofs.Common.{◌≡◌, ℕ, ◌<◌, ◌≤◌, Bool, List, Option, Some, None, ◌⊎◌, inl, inr, length, sym, subst, arith}
+use Rattle.bd_base.specs.Causes.{Rose}
+use Rattle.bd_base.specs.Shelf.{Told, text}
+use Rattle.bd_base.specs.declared.text_err.Limit.{Limit}
+use Rattle.bd_base.specs.declared.text_err.Limit.TheVariants as limit
+use Rattle.bd_task.specs.Valid.{IsValid}
+use Rattle.seq_check.specs.declared.judging.Broken.TheVariants as broken
+use Rattle.script_text.specs.declared.script.Script.{Script}
+use Rattle.script_text.specs.Limits.{over_of}
+use Rattle.script_text.specs.Spells.{SpellsScript}
+use Rattle.script_text.proofs.SpellsLemmas.{one_spelled}
+use Rattle.bd_top.specs.declared.record.RunRecord.{RunRecord}
+use Rattle.bd_top.specs.declared.status.File.TheVariants as file
+use Rattle.bd_top.specs.declared.status.Status.{Status}
+use Rattle.bd_top.specs.declared.status.Status.TheVariants as status
+use Rattle.bd_top.specs.Prepared.{Counts, WasRead, IsToldAs, IsTextRefusal, IsNamedRefusal, IsRefusal, IsUnread, IsLong, IsBroken, IsOver, IsNoScript}
+use Rattle.bd_top.specs.Words.{script_named}
+use Rattle.bd_top.specs.Run.{Ends, OfRun, IsWriteFault, IsRefused, IsGood, IsFaultless, IsDoneOrNoMemory}
+use Rattle.bd_top.specs.Taken.{Taken, HasFailed}
+
+differs : {A : Type 0} (o : Option A) (a : A) → o ≡ None → o ≡ Some a → ⊥
+differs o a e h = cc
+
+named_same : (o : Option (List ℕ)) (m n : List ℕ) → o ≡ Some m → o ≡ Some n → n ≡ m
+named_same o m n e h = cc
+
+module _ (words : List (List ℕ)) (tells : List ℕ → Told) (script : Script) (good : IsGood words tells script) where
+  not_valid : (s : Script) → s ≡ script → (IsValid s.task s.plan → ⊥) → ⊥
+  not_valid s same invalid = invalid (subst (λ (z : Script). IsValid z.task z.plan) (sym same) good.valid)
+
+  no_over : (s : Script) (o : Limit × ℕ) → s ≡ script → over_of s ≡ Some o → ⊥
+  no_over s o same e = differs (over_of script) o good.within (subst (λ (z : Script). over_of z ≡ Some o) same e)
+
+  read_same : (read : List ℕ) → IsToldAs (tells good.name) read → good.read ≡ read
+  read_same read told = subst (λ z. IsToldAs z read) good.told told
+
+  same_script : (t : List ℕ) (s : Script) → good.read ≡ t → SpellsScript t s → s ≡ script
+  same_script t s is spelled = one_spelled good.read s script (subst (λ z. SpellsScript z s) (sym is) spelled) good.spelled
+
+  no_text_refusal : (t : List ℕ) (why : Status) (line : List ℕ) → good.read ≡ t → IsTextRefusal t why line → ⊥
+  no_text_refusal t (status.PlanInvalid (broken.Step at f)) line is h = not_valid h.script (same_script t h.script is h.spelled) h.invalid
+  no_text_refusal t (status.PlanInvalid (broken.Goal f)) line is h = not_valid h.script (same_script t h.script is h.spelled) h.invalid
+  no_text_refusal t (status.PlanInvalid broken.NoMemory) line is h = h
+  no_text_refusal t (status.TextRefused file.Script place cause) line is h = h.none script (subst (λ z. SpellsScript z script) is good.spelled)
+  no_text_refusal t (status.TextRefused file.Domain place cause) line is h = h
+  no_text_refusal t (status.TextRefused file.Problem place cause) line is h = h
+  no_text_refusal t (status.TextRefused file.Plan place cause) line is h = h
+  no_text_refusal t (status.OverLimit l count) line is h = no_over h.script (l, count) (same_script t h.script is h.spelled) h.over
+  no_text_refusal t status.Done line is h = h
+  no_text_refusal t status.Usage line is h = h
+  no_text_refusal t (status.ReadFault n missing) line is h = h
+  no_text_refusal t status.WriteFault line is h = h
+  no_text_refusal t status.NoMemory line is h = h
+
+  no_read_refusal : (why : Status) (line : List ℕ) → WasRead (tells good.name) (λ t. IsTextRefusal t why line) → ⊥
+  no_read_refusal why line r = no_text_refusal r.read why line (read_same r.read r.is_told) r.holds
+
+  module _ (c : Counts) (faultless : IsFaultless c.faults c.faults_after) where
+    read_fault : (missing : Bool) → IsUnread (text good.read) c missing → ⊥
+    read_fault missing h = faultless h.0
+
+    too_long : IsLong (text good.read) c → ⊥
+    too_long h = let long : 16_777_216 < length good.read = h.1 in let short : length good.read ≤ 16_777_216 = good.short in omega arith
+
+    no_named_refusal : (why : Status) (line : List ℕ) → IsNamedRefusal good.name (tells good.name) c why line → ⊥
+    no_named_refusal (status.ReadFault n missing) line h = read_fault missing (subst (λ z. IsUnread z c missing) good.told h.2)
+    no_named_refusal (status.OverLimit limit.Text count) line h = too_long (subst (λ z. IsLong z c) good.told h.2)
+    no_named_refusal (status.OverLimit limit.Parameters count) line h = no_read_refusal (status.OverLimit limit.Parameters count) line h
+    no_named_refusal (status.OverLimit limit.Objects count) line h = no_read_refusal (status.OverLimit limit.Objects count) line h
+    no_named_refusal (status.OverLimit limit.Facts count) line h = no_read_refusal (status.OverLimit limit.Facts count) line h
+    no_named_refusal (status.OverLimit limit.Actions count) line h = no_read_refusal (status.OverLimit limit.Actions count) line h
+    no_named_refusal (status.OverLimit limit.Steps count) line h = no_read_refusal (status.OverLimit limit.Steps count) line h
+    no_named_refusal (status.OverLimit limit.Offers count) line h = no_read_refusal (status.OverLimit limit.Offers count) line h
+    no_named_refusal (status.PlanInvalid b) line h = no_read_refusal (status.PlanInvalid b) line h
+    no_named_refusal (status.TextRefused f place cause) line h = no_read_refusal (status.TextRefused f place cause) line h
+    no_named_refusal status.Done line h = no_read_refusal status.Done line h
+    no_named_refusal status.Usage line h = no_read_refusal status.Usage line h
+    no_named_refusal status.WriteFault line h = no_read_refusal status.WriteFault line h
+    no_named_refusal status.NoMemory line h = no_read_refusal status.NoMemory line h
+
+    of_name : (why : Status) (line name : List ℕ) → script_named words ≡ Some name → IsNamedRefusal name (tells name) c why line → ⊥
+    of_name why line name named h = no_named_refusal why line (subst (λ z. IsNamedRefusal z (tells z) c why line) (named_same _ good.name name good.named named) h)
+
+    no_refusal : (why : Status) (line : List ℕ) → IsRefusal words tells c why line → ⊥
+    no_refusal status.Usage line h = differs _ good.name h.0 good.named
+    no_refusal status.Done line h = of_name status.Done line h.name h.named h.holds
+    no_refusal (status.PlanInvalid b) line h = of_name (status.PlanInvalid b) line h.name h.named h.holds
+    no_refusal (status.TextRefused f place cause) line h = of_name (status.TextRefused f place cause) line h.name h.named h.holds
+    no_refusal (status.ReadFault n missing) line h = of_name (status.ReadFault n missing) line h.name h.named h.holds
+    no_refusal status.WriteFault line h = of_name status.WriteFault line h.name h.named h.holds
+    no_refusal (status.OverLimit l count) line h = of_name (status.OverLimit l count) line h.name h.named h.holds
+    no_refusal status.NoMemory line h = of_name status.NoMemory line h.name h.named h.holds
+
+    no_failure : (out notes : Taken) → IsFaultless out.faults out.faults_after → IsFaultless notes.faults notes.faults_after → HasFailed out ⊎ HasFailed notes → ⊥
+    no_failure out notes quiet still (inl h) = quiet h
+    no_failure out notes quiet still (inr h) = still h
+
+    no_fault : (out notes : Taken) (run : Option RunRecord) → IsFaultless out.faults out.faults_after → IsFaultless notes.faults notes.faults_after → OfRun run (IsWriteFault words tells out notes) → ⊥
+    no_fault out notes None quiet still h = h
+    no_fault out notes (Some run) quiet still h = no_failure out notes quiet still h.failed
+
+    pub complete : (out notes : Taken) (why : Status) (run : Option RunRecord) → IsFaultless out.faults out.faults_after → IsFaultless notes.faults notes.faults_after →
+        Ends words tells c out notes why run → IsDoneOrNoMemory why
+    complete out notes status.Done run quiet still h = tt
+    complete out notes status.NoMemory run quiet still h = tt
+    complete out notes status.WriteFault run quiet still h = no_fault out notes run quiet still h
+    complete out notes status.Usage run quiet still h = no_refusal status.Usage h.line h.refusal
+    complete out notes (status.PlanInvalid b) run quiet still h = no_refusal (status.PlanInvalid b) h.line h.refusal
+    complete out notes (status.TextRefused f place cause) run quiet still h = no_refusal (status.TextRefused f place cause) h.line h.refusal
+    complete out notes (status.ReadFault n missing) run quiet still h = no_refusal (status.ReadFault n missing) h.line h.refusal
+    complete out notes (status.OverLimit l count) run quiet still h = no_refusal (status.OverLimit l count) h.line h.refusal

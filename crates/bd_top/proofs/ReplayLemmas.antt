@@ -1,0 +1,160 @@
+-- The steps of a replay, one by one and together.
+use Rattle.std.proofs.Common.{◌≡◌, ◌⊎◌, inl, inr, ℕ, zero, suc, ◌+◌, ◌<◌, ◌≤◌, List, [], ◌∷◌, ◌++◌, length, take, get_or, Option, Some, None, Result, Ok, Err, IfErr, IsErrAnd, refl, sym, ap, ◌∙◌, subst, append_assoc, length-append, arith}
+use Rattle.std.proofs.lemmas.List.{append-nil}
+use Rattle.bd_base.specs.Causes.{Rose, TakesPart, appended}
+use Rattle.bd_base.proofs.PutLemmas.{appended-nil, appended-append, TakesPart-after}
+use Rattle.bd_task.specs.TaskView.{TaskView}
+use Rattle.plan_core.specs.Core.{CoreView, State, applied, replay, opened, state_of, accepted}
+use Rattle.plan_core.specs.Law.{IsLawful, after_reply}
+use Rattle.plan_core.proofs.LawLemmas.{replay-append}
+use Rattle.plan_core.specs.Replies.{Replies}
+use Rattle.plan_core.specs.declared.offer.Offer.{Offer}
+use Rattle.plan_core.specs.declared.offer.Offer.TheVariants.{Replace}
+use Rattle.plan_core.specs.declared.refusal.Refusal.{Refusal}
+use Rattle.plan_core.specs.declared.refusal.Refusal.TheVariants as refusal
+use Rattle.bd_top.specs.declared.replay.Stop.{Stop}
+use Rattle.bd_top.specs.declared.replay.Stop.TheVariants.{WriteFault, NoMemory}
+use Rattle.bd_top.specs.Taken.{Taken, IsSilent, Receives, ReceivesPart, HasFailed}
+use Rattle.bd_top.specs.Texts.{better_of, better_texts, reply_line, reply_texts}
+use Rattle.bd_top.specs.Replay.{IsTold, Makes, IsMade, IsUnmade, MakesOne, Puts, Follows, FollowsPart, FollowsSo, IsCause, betters_of}
+use Rattle.bd_top.proofs.TextLemmas.{better_texts-more, reply_texts-more}
+
+abbrev Reply : Type 0
+Reply = Result ℕ Refusal
+
+-- one offer
+
+pub made_one : (core last : CoreView) (offer : Offer) (before after : List Reply) (r : Result (Unit {0}) Stop) → IsMade core offer before after last → MakesOne core offer before after last r
+made_one core last offer before after (Ok done) m = m
+made_one core last offer before after (Err WriteFault) m = m
+made_one core last offer before after (Err NoMemory) m = inl m
+
+pub told_of : (why : Refusal) → (why ≡ refusal.NoMemory → ⊥) → IsTold (Err why)
+told_of (refusal.Closed replaced entries) n = tt
+told_of (refusal.NoAction number) n = tt
+told_of refusal.Gone n = tt
+told_of refusal.Split n = tt
+told_of (refusal.NotCheaper old new) n = tt
+told_of (refusal.TooLong steps) n = tt
+told_of (refusal.Unlinked fault) n = tt
+told_of refusal.NoMemory n = n refl
+
+pub puts_same : (p q : List ℕ) (s : Taken) (r : Result (Unit {0}) Stop) → p ≡ q → Puts p s r → Puts q s r
+puts_same p q s r e h = subst (λ z. Puts z s r) e h
+
+part_none : (before : Option (List ℕ)) (after : Option (List ℕ)) (text : List ℕ) → after ≡ before → TakesPart before after text
+part_none before after text e = record { count = 0; within = omega arith; part = e ∙ sym (appended-nil before) }
+
+pub follows_put : (from to piece : List ℕ) (s : Taken) (r : Result (Unit {0}) Stop) → to ≡ from ++ piece → Puts piece s r → FollowsSo from to s r
+follows_put from to piece s (Ok done) e h = record { piece = piece; grown = e; received = h }
+follows_put from to piece s (Err WriteFault) e h = record { piece = piece; grown = e; received = h.part }
+follows_put from to piece s (Err NoMemory) e h = record { piece = piece; grown = e; received = part_none s.before s.after piece h }
+
+pub follows_none : (from to : List ℕ) (s : Taken) (r : Result (Unit {0}) Stop) → to ≡ from → IsSilent s → FollowsSo from to s r
+follows_none from to s (Ok done) e h = record { piece = []; grown = e ∙ sym (append-nil from); received = h ∙ sym (appended-nil s.before) }
+follows_none from to s (Err why) e h = record { piece = []; grown = e ∙ sym (append-nil from); received = part_none s.before s.after [] h }
+
+pub cause_out : (piece : List ℕ) (out notes : Taken) (r : Result (Unit {0}) Stop) → Puts piece out r → IfErr r (λ why. IsCause out notes why)
+cause_out piece out notes (Ok done) h = tt
+cause_out piece out notes (Err WriteFault) h = inl h.failed
+cause_out piece out notes (Err NoMemory) h = tt
+
+pub cause_notes : (piece : List ℕ) (out notes : Taken) (r : Result (Unit {0}) Stop) → Puts piece notes r → IfErr r (λ why. IsCause out notes why)
+cause_notes piece out notes (Ok done) h = tt
+cause_notes piece out notes (Err WriteFault) h = inr h.failed
+cause_notes piece out notes (Err NoMemory) h = tt
+
+-- the better text of an offer that was accepted comes last
+pub betters_more : (core last : CoreView) (offer : Offer) (place : ℕ) → IsLawful last → Replies core offer (Ok place) → last ≡ accepted offer core →
+    betters_of last ≡ betters_of core ++ better_of last.task place last.tree
+betters_more core last (Replace window list) place lawful r is =
+    subst (λ (z : CoreView). IsLawful z → betters_of z ≡ betters_of core ++ better_of z.task place z.tree) (sym is)
+    (λ law. better_texts-more core.task 0 (opened core.start) core.history (Replace window list) ∙ ap (λ z. betters_of core ++ z) (tail law.replays)) lawful
+  where
+    tail : replay (opened core.start) (core.history ++ Replace window list ∷ []) ≡ state_of (accepted (Replace window list) core) →
+        better_texts core.task (0 + length core.history) (replay (opened core.start) core.history) (Replace window list ∷ []) ≡ better_of core.task place (accepted (Replace window list) core).tree
+    tail replays = append-nil _
+        ∙ ap (λ (n : ℕ). better_of core.task n (applied (Replace window list) (replay (opened core.start) core.history)).tree) (let e : place ≡ length core.history + 1 = r.1 in omega (arith, e))
+        ∙ ap (λ (s : State). better_of core.task place s.tree) (sym (replay-append (opened core.start) core.history (Replace window list ∷ [])) ∙ replays)
+
+pub same_betters : (core last : CoreView) → last ≡ core → betters_of last ≡ betters_of core
+same_betters core last e = ap betters_of e
+
+-- the reply text of an offer that was refused comes last
+pub replies_more : (task : TaskView) (before after : List Reply) (number : ℕ) (why : Refusal) → after ≡ before ++ Err why ∷ [] → number ≡ length after → reply_texts task 1 after ≡ reply_texts task 1 before ++ reply_line task number why
+replies_more task before after number why e n =
+    ap (reply_texts task 1) e ∙ reply_texts-more task 1 before (Err why)
+    ∙ ap (λ z. reply_texts task 1 before ++ z) (append-nil _ ∙ ap (λ k. reply_line task k why) count)
+  where
+    count : 1 + length before ≡ number
+    count = let last : List Reply = Err why ∷ [] in omega (arith, n, ap length e, length-append before last)
+
+pub replies_same : (task : TaskView) (before after : List Reply) (place : ℕ) → after ≡ before ++ Ok place ∷ [] → reply_texts task 1 after ≡ reply_texts task 1 before
+replies_same task before after place e = ap (reply_texts task 1) e ∙ reply_texts-more task 1 before (Ok place) ∙ append-nil _
+
+-- a list of offers
+
+more : (offers : List Offer) (replies : List Reply) (core mid last : CoreView) (offer : Offer) (reply : Reply) → Makes core offers replies mid → length replies < length offers → offer ≡ get_or offers (length replies) offer →
+    IsTold reply → Replies mid offer reply → last ≡ after_reply mid offer reply → Makes core offers (replies ++ reply ∷ []) last
+more [] replies core mid last offer reply m lt is told replied leads = absurd (omega arith)
+more (o ∷ os) [] core mid last offer reply m lt is told replied leads =
+    (told, subst (λ z. Replies z o reply) m (subst (λ z. Replies mid z reply) is replied), leads ∙ ap (λ z. after_reply z offer reply) m ∙ ap (λ z. after_reply core z reply) is)
+more (o ∷ os) (r ∷ rs) core mid last offer reply m lt is told replied leads =
+    (m.0, m.1, more os rs (after_reply core o r) mid last offer reply m.2 (omega arith) is told replied leads)
+
+pub made_more : (offers : List Offer) (replies after : List Reply) (core mid last : CoreView) (i : ℕ) (offer : Offer) → Makes core offers replies mid → length replies ≡ i → i < length offers → offer ≡ get_or offers i offer →
+    IsMade mid offer replies after last → Makes core offers after last
+made_more offers replies after core mid last i offer m count lt is one =
+    subst (λ z. Makes core offers z last) (sym one.listed)
+    (more offers replies core mid last offer one.reply m (omega (arith, count)) (subst (λ n. offer ≡ get_or offers n offer) (sym count) is) one.told one.replied one.leads)
+
+pub made_same : (offers : List Offer) (replies after : List Reply) (core mid last : CoreView) → Makes core offers replies mid → IsUnmade mid replies after last → Makes core offers after last
+made_same offers replies after core mid last m none =
+    subst (λ z. Makes core offers z last) (sym none.listed) (subst (λ z. Makes core offers replies z) (sym none.leads) m)
+
+-- the same for an offer whose making was stopped
+pub made_stop : (offers : List Offer) (replies after : List Reply) (core mid last : CoreView) (i : ℕ) (offer : Offer) (why : Stop) → Makes core offers replies mid → length replies ≡ i → i < length offers → offer ≡ get_or offers i offer →
+    MakesOne mid offer replies after last (Err why) → Makes core offers after last
+made_stop offers replies after core mid last i offer WriteFault m count lt is one = made_more offers replies after core mid last i offer m count lt is one
+made_stop offers replies after core mid last i offer NoMemory m count lt is (inl one) = made_more offers replies after core mid last i offer m count lt is one
+made_stop offers replies after core mid last i offer NoMemory m count lt is (inr none) = made_same offers replies after core mid last m none
+
+pub one_more : (before after : List Reply) (reply : Reply) (i : ℕ) → length before ≡ i → after ≡ before ++ reply ∷ [] → length after ≡ i + 1
+one_more before after reply i e is = omega (arith, e, ap length is, length-append before (reply ∷ []))
+
+pub same_task : (core last : CoreView) (offer : Offer) (reply : Reply) → last ≡ after_reply core offer reply → last.task ≡ core.task
+same_task core last offer (Ok place) e = ap (λ (z : CoreView). z.task) e
+same_task core last offer (Err why) e = ap (λ (z : CoreView). z.task) e
+
+-- what follows a text that has grown
+pub follows_on : (a b c : List ℕ) (t0 t1 t2 : Option (List ℕ)) (f0 f1 f2 : ℕ) (r : Result (Unit {0}) Stop) →
+    Follows a b (record { before = t0; after = t1; faults = f0; faults_after = f1 }) → FollowsSo b c (record { before = t1; after = t2; faults = f1; faults_after = f2 }) r →
+    FollowsSo a c (record { before = t0; after = t2; faults = f0; faults_after = f2 }) r
+follows_on a b c t0 t1 t2 f0 f1 f2 (Ok done) h k = record {
+  piece = h.piece ++ k.piece;
+  grown = k.grown ∙ ap (λ z. z ++ k.piece) h.grown ∙ append_assoc a h.piece k.piece;
+  received = k.received ∙ ap (λ z. appended z k.piece) h.received ∙ appended-append t0 h.piece k.piece;
+}
+follows_on a b c t0 t1 t2 f0 f1 f2 (Err why) h k = record {
+  piece = h.piece ++ k.piece;
+  grown = k.grown ∙ ap (λ z. z ++ k.piece) h.grown ∙ append_assoc a h.piece k.piece;
+  received = TakesPart-after t0 t1 t2 h.piece k.piece h.received k.received;
+}
+
+pub err_follows : (from to : List ℕ) (s : Taken) (r : Result (Unit {0}) Stop) (P : Stop → Type 0) → IsErrAnd r P → FollowsPart from to s → FollowsSo from to s r
+err_follows from to s (Ok done) P e h = elim e [ ]
+err_follows from to s (Err why) P e h = h
+
+-- the texts of replies, by tasks that are the same
+pub replies_on : (t u : TaskView) (before after : List Reply) (s : Taken) (r : Result (Unit {0}) Stop) → t ≡ u → FollowsSo (reply_texts t 1 before) (reply_texts t 1 after) s r → FollowsSo (reply_texts u 1 before) (reply_texts u 1 after) s r
+replies_on t u before after s r e h = subst (λ (z : TaskView). FollowsSo (reply_texts z 1 before) (reply_texts z 1 after) s r) e h
+
+pub rose_before : (a b c : ℕ) → a ≤ b → Rose b c → Rose a c
+rose_before a b c le h = omega (arith, h)
+
+pub cause_before : (o0 o1 o2 n0 n1 n2 : Option (List ℕ)) (f0 f1 f2 g0 g1 g2 : ℕ) (why : Stop) → f0 ≤ f1 → g0 ≤ g1 →
+    IsCause (record { before = o1; after = o2; faults = f1; faults_after = f2 }) (record { before = n1; after = n2; faults = g1; faults_after = g2 }) why →
+    IsCause (record { before = o0; after = o2; faults = f0; faults_after = f2 }) (record { before = n0; after = n2; faults = g0; faults_after = g2 }) why
+cause_before o0 o1 o2 n0 n1 n2 f0 f1 f2 g0 g1 g2 WriteFault le le' (inl h) = inl (rose_before f0 f1 f2 le h)
+cause_before o0 o1 o2 n0 n1 n2 f0 f1 f2 g0 g1 g2 WriteFault le le' (inr h) = inr (rose_before g0 g1 g2 le' h)
+cause_before o0 o1 o2 n0 n1 n2 f0 f1 f2 g0 g1 g2 NoMemory le le' h = tt

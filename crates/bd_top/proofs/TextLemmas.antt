@@ -1,0 +1,39 @@
+-- Texts of lists that are put together.
+use Rattle.std.proofs.Common.{◌≡◌, ℕ, ◌+◌, List, [], ◌∷◌, ◌++◌, length, Option, Some, None, Result, Ok, Err, slice_get, refl, sym, ap, ◌∙◌, append_assoc, add-zero, arith}
+use Rattle.bd_task.specs.TaskView.{TaskView}
+use Rattle.plan_core.specs.Core.{CoreView, State, applied, replay, opened, state_of, accepted}
+use Rattle.plan_core.specs.declared.offer.Offer.{Offer}
+use Rattle.plan_core.specs.declared.offer.Offer.TheVariants.{Replace}
+use Rattle.plan_core.specs.declared.refusal.Refusal.{Refusal}
+use Rattle.bd_top.specs.Replay.{betters_of}
+use Rattle.bd_top.specs.Texts.{shown, name_by, newline, plan_lines, better_of, better_texts, reply_line, reply_texts}
+
+pub plan_lines-append : (task : TaskView) (xs ys : List ℕ) → plan_lines task (xs ++ ys) ≡ plan_lines task xs ++ plan_lines task ys
+plan_lines-append task [] ys = refl
+plan_lines-append task (x ∷ xs) ys =
+    ap (λ z. shown (name_by (slice_get task.actions x)) ++ newline ++ z) (plan_lines-append task xs ys)
+    ∙ sym (append_assoc (shown (name_by (slice_get task.actions x)) ++ newline) (plan_lines task xs) (plan_lines task ys))
+
+-- one more entry
+pub better_texts-more : (task : TaskView) (place : ℕ) (state : State) (xs : List Offer) (x : Offer) →
+    better_texts task place state (xs ++ x ∷ []) ≡ better_texts task place state xs ++ better_texts task (place + length xs) (replay state xs) (x ∷ [])
+better_texts-more task place state [] x = rw (add-zero place) refl
+better_texts-more task place state (Replace window list ∷ xs) x =
+    let next = applied (Replace window list) state in
+    let front = better_of task (place + 1) next.tree in
+    let count : place + 1 + length xs ≡ place + length (Replace window list ∷ xs) = omega arith in
+    ap (λ z. front ++ z) (better_texts-more task (place + 1) next xs x ∙ ap (λ n. better_texts task (place + 1) next xs ++ better_texts task n (replay next xs) (x ∷ [])) count)
+    ∙ sym (append_assoc front (better_texts task (place + 1) next xs) (better_texts task (place + length (Replace window list ∷ xs)) (replay next xs) (x ∷ [])))
+
+-- one more reply
+pub reply_texts-more : (task : TaskView) (number : ℕ) (xs : List (Result ℕ Refusal)) (x : Result ℕ Refusal) →
+    reply_texts task number (xs ++ x ∷ []) ≡ reply_texts task number xs ++ reply_texts task (number + length xs) (x ∷ [])
+reply_texts-more task number [] x = rw (add-zero number) refl
+reply_texts-more task number (Ok place ∷ xs) x =
+    let count : number + 1 + length xs ≡ number + length (Ok place ∷ xs) = omega arith in
+    reply_texts-more task (number + 1) xs x ∙ ap (λ n. reply_texts task (number + 1) xs ++ reply_texts task n (x ∷ [])) count
+reply_texts-more task number (Err why ∷ xs) x =
+    let count : number + 1 + length xs ≡ number + length (Err why ∷ xs) = omega arith in
+    let front = reply_line task number why in
+    ap (λ z. front ++ z) (reply_texts-more task (number + 1) xs x ∙ ap (λ n. reply_texts task (number + 1) xs ++ reply_texts task n (x ∷ [])) count)
+    ∙ sym (append_assoc front (reply_texts task (number + 1) xs) (reply_texts task (number + length (Err why ∷ xs)) (x ∷ [])))

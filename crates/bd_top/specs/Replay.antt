@@ -1,0 +1,73 @@
+-- How the offers of a script are made one by one, and what is put for them.
+use Rattle.std.specs.Prelude.{◌≡◌, ◌⊎◌, ℕ, ◌≤◌, List, [], ◌∷◌, ◌++◌, Result, Ok, Err}
+use Rattle.plan_core.specs.Core.{CoreView, opened}
+use Rattle.plan_core.specs.Law.{after_reply}
+use Rattle.plan_core.specs.Replies.{Replies}
+use Rattle.plan_core.specs.declared.offer.Offer.{Offer}
+use Rattle.plan_core.specs.declared.refusal.Refusal.{Refusal}
+use Rattle.plan_core.specs.declared.refusal.Refusal.TheVariants as refusal
+use Rattle.bd_top.specs.declared.replay.Stop.{Stop}
+use Rattle.bd_top.specs.declared.replay.Stop.TheVariants as stop
+use Rattle.bd_top.specs.Taken.{Taken, IsSilent, Receives, ReceivesPart, HasFailed, IsCut}
+use Rattle.bd_top.specs.Texts.{better_texts}
+
+-- the reply says something of its offer: memory wasn't wanting
+abbrev pub IsTold : Result ℕ Refusal → Type 0
+IsTold (Err refusal.NoMemory) = ⊥
+IsTold other = Unit {0}
+
+-- the first offers of a list were made, as many as there are replies: each has the defined reply on the core that those before it
+-- led to, and together they led to the last core
+abbrev pub Makes : CoreView → List Offer → List (Result ℕ Refusal) → CoreView → Type 0
+Makes core offers [] last = last ≡ core
+Makes core [] (reply ∷ replies) last = ⊥
+Makes core (offer ∷ offers) (reply ∷ replies) last = IsTold reply × Replies core offer reply × Makes (after_reply core offer reply) offers replies last
+
+-- the better texts of a core's history
+abbrev pub betters_of : CoreView → List ℕ
+betters_of core = better_texts core.task 0 (opened core.start) core.history
+
+-- one more offer was made: its reply stands last, and led to the last core
+pub record IsMade (core : CoreView) (offer : Offer) (before after : List (Result ℕ Refusal)) (last : CoreView) : Type 0 where
+  pub reply : Result ℕ Refusal
+  pub told : IsTold reply
+  pub replied : Replies core offer reply
+  pub listed : after ≡ before ++ reply ∷ []
+  pub leads : last ≡ after_reply core offer reply
+
+-- memory was wanting before the offer was made
+pub record IsUnmade (core : CoreView) (before after : List (Result ℕ Refusal)) (last : CoreView) : Type 0 where
+  pub listed : after ≡ before
+  pub leads : last ≡ core
+
+-- an offer was made, unless memory was wanting before
+abbrev pub MakesOne : CoreView → Offer → List (Result ℕ Refusal) → List (Result ℕ Refusal) → CoreView → Result (Unit {0}) Stop → Type 0
+MakesOne core offer before after last (Err stop.NoMemory) = IsMade core offer before after last ⊎ IsUnmade core before after last
+MakesOne core offer before after last other = IsMade core offer before after last
+
+-- a text was put, or the sink failed within it, or memory was wanting before
+abbrev pub Puts : List ℕ → Taken → Result (Unit {0}) Stop → Type 0
+Puts text s (Ok done) = Receives s text
+Puts text s (Err stop.WriteFault) = IsCut s text
+Puts text s (Err stop.NoMemory) = IsSilent s
+
+-- where a text grew, a sink has received what came behind
+pub record Follows (from to : List ℕ) (s : Taken) : Type 0 where
+  pub piece : List ℕ
+  pub grown : to ≡ from ++ piece
+  pub received : Receives s piece
+
+-- where a text grew, a sink has received a first part of what came behind
+pub record FollowsPart (from to : List ℕ) (s : Taken) : Type 0 where
+  pub piece : List ℕ
+  pub grown : to ≡ from ++ piece
+  pub received : ReceivesPart s piece
+
+abbrev pub FollowsSo : List ℕ → List ℕ → Taken → Result (Unit {0}) Stop → Type 0
+FollowsSo from to s (Ok done) = Follows from to s
+FollowsSo from to s (Err why) = FollowsPart from to s
+
+-- a write fault comes only where a sink failed
+abbrev pub IsCause : Taken → Taken → Stop → Type 0
+IsCause out notes stop.WriteFault = HasFailed out ⊎ HasFailed notes
+IsCause out notes stop.NoMemory = Unit {0}
