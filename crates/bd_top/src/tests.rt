@@ -2,9 +2,10 @@ ghost use Rattle.std.specs.Prelude.{◌≡◌, length};
 
 use crate::writing::push_number;
 use crate::{End, USAGE, reply_text, run_alone};
-use bd_base::{FactSet, MemShelf, MemSink, NoMemory, Text};
+use bd_base::{FactSet, Limit, MemShelf, MemSink, NoMemory, Text, TextErr};
 use bd_task::Task;
 use plan_core::Refusal;
+use script_text::read_script;
 use std::alloc::{AllocError, Global};
 use std::test::Fail;
 
@@ -552,6 +553,88 @@ fn facts_past_their_limit_are_told_first(rt: HostRuntime) -> Result<(), Fail> {
     assert_eq!(rt;
         written.notes.as_slice(),
         b"over limit: facts 262145\n".as_slice()
+    );
+    Ok(())
+}
+
+// A text with so many lines that begin with the head, a number and the tail, between a first and a last part.
+fn many_lines(
+    alloc: Global,
+    first: &str,
+    head: &str,
+    tail: &str,
+    lines: u64,
+    last: &str,
+) -> Result<Vec<u8>, NoMemory> {
+    let mut text = Vec::from_slice(alloc, first.as_bytes())?;
+    for line in 0..lines {
+        text.extend_from_slice(head.as_bytes())?;
+        push_number(&mut text, line)?;
+        text.extend_from_slice(tail.as_bytes())?;
+    }
+    text.extend_from_slice(last.as_bytes())?;
+    Ok(text)
+}
+
+// A script of so many actions, which do nothing.
+fn actions_script(alloc: Global, actions: u64) -> Result<Vec<u8>, NoMemory> {
+    many_lines(
+        alloc,
+        "bdpo-script 1\n",
+        "action (",
+        ") 0 pre add del\n",
+        actions,
+        "init\ngoal\nplan\nend\n",
+    )
+}
+
+// A script of so many offers, of which none carries a kid.
+fn offers_script(alloc: Global, offers: u64) -> Result<Vec<u8>, NoMemory> {
+    many_lines(
+        alloc,
+        "bdpo-script 1\ninit\ngoal\nplan\n",
+        "replace ",
+        " early with\n",
+        offers,
+        "end\n",
+    )
+}
+
+// The limit that a text passes, and the count that is told; `None` where it is a script within the limits.
+fn limit_passed(alloc: Global, text: &[u8]) -> Result<Option<(Limit, u64)>, Fail> {
+    if text.len() > 100_000_000 {
+        return Err("too long for the test")?;
+    }
+    match read_script(alloc, text) {
+        Ok(_) => Ok(None),
+        Err(TextErr::Over { limit, count }) => Ok(Some((limit, count))),
+        Err(_) => Err("no script")?,
+    }
+}
+
+// No text that the program reads can pass these two, so the reader is asked.
+#[test]
+fn actions_past_their_limit_are_told(rt: HostRuntime) -> Result<(), Fail> {
+    let alloc = rt.alloc();
+    let text = actions_script(alloc, 1_000_000)?;
+    assert_eq!(rt; limit_passed(alloc, &text)?, None);
+    let text = actions_script(alloc, 1_000_001)?;
+    assert_eq!(rt;
+        limit_passed(alloc, &text)?,
+        Some((Limit::Actions, 1_000_001))
+    );
+    Ok(())
+}
+
+#[test]
+fn offers_past_their_limit_are_told(rt: HostRuntime) -> Result<(), Fail> {
+    let alloc = rt.alloc();
+    let text = offers_script(alloc, 1_000_000)?;
+    assert_eq!(rt; limit_passed(alloc, &text)?, None);
+    let text = offers_script(alloc, 1_000_001)?;
+    assert_eq!(rt;
+        limit_passed(alloc, &text)?,
+        Some((Limit::Offers, 1_000_001))
     );
     Ok(())
 }
