@@ -1,7 +1,9 @@
+pub mod BeforeLemmas
 pub mod BitLemmas
 pub mod CellLemmas
 pub mod ClosedLemmas
 pub mod FactLemmas
+pub mod MeetLemmas
 pub mod PairLemmas
 pub mod PutLemmas
 pub mod RowLemmas

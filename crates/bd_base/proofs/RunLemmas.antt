@@ -4,11 +4,13 @@ use Rattle.std.specs.Int.{bit_at}
 use Rattle.std.proofs.lemmas.Bool.{cases_eq, cases_lt, eq-eqb, ne_eqb, or_right, both_ways, leb-true, le-leb, eqb-true}
 use Rattle.std.proofs.lemmas.Nat.Bits.{same_from_bits_below}
 use Rattle.bd_base.specs.Bits.{bits_of, row_of, upto}
-use Rattle.bd_base.specs.Facts.{has}
+use Rattle.bd_base.specs.Facts.{has, minus, remove_fact}
 use Rattle.bd_base.specs.Pairs.{after_of, before_each, in_turn, total_order}
 use Rattle.bd_base.specs.Rows.{words_at, pairs_with, pairs_of}
 use Rattle.bd_base.specs.declared.rows.Span.{Span}
 use Rattle.bd_base.proofs.BitLemmas.{has_bits_at}
+use Rattle.bd_base.proofs.FactLemmas.{remove_absent}
+use Rattle.bd_base.proofs.SetLemmas.{clear_single}
 use Rattle.bd_base.proofs.WordLemmas.{has_row_zero, append-nil, row_end}
 use Rattle.bd_base.proofs.RowLemmas.{append-none, after-append, after-with_same, after-with_other, after-below, after-at, after-past, with_upto}
 
@@ -26,6 +28,15 @@ has_upto_in a (suc k) q low high = elim (cases_eq a q) [
   | inl e ↦ rw (eq-eqb a q e) refl
   | inr ne ↦ or_right _ _ (has_upto_in (a + 1) k q (omega arith) (omega arith))
 ]
+
+-- a run without its first position
+pub run_without : (s : List ℕ) (i n : ℕ) → i + 1 < n → s ≡ upto (i + 1) (n - (i + 1))
+    → minus s (bits_of (64 * ((i + 1) / 64)) (1 * 2 ^ ((i + 1) % 64) % 2 ^ 64)) ≡ upto (min n (i + 1 + 1)) (n - min n (i + 1 + 1))
+run_without s i n lt is =
+    let many : n - (i + 1) ≡ suc (n - (i + 1 + 1)) = omega arith in
+    let next : min n (i + 1 + 1) ≡ i + 1 + 1 = omega arith in
+    clear_single s (i + 1) ∙ ap (remove_fact (i + 1)) (is ∙ ap (upto (i + 1)) many) ∙ rw (eq-eqb (i + 1) (i + 1) refl)
+    (remove_absent (upto (i + 1 + 1) (n - (i + 1 + 1))) (i + 1) (has_upto_below (i + 1 + 1) (n - (i + 1 + 1)) (i + 1) (omega arith)) ∙ sym (ap (λ z. upto z (n - z)) next))
 
 -- the part of a run that one word holds
 run_part : (base from to i : ℕ) → i < 64 → from ≤ to

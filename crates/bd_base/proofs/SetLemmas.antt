@@ -160,7 +160,7 @@ pub has_words : (words : List ℕ) (q : ℕ) → has (row_of 0 words) q ≡ on (
 unfolding on
 has_words words q = has_row_zero words q
 
-get-set : (words : List ℕ) (n m v : ℕ) → n < length words → get_or (set words n v) m 0 ≡ cond (eqb n m) v (get_or words m 0)
+pub get-set : (words : List ℕ) (n m v : ℕ) → n < length words → get_or (set words n v) m 0 ≡ cond (eqb n m) v (get_or words m 0)
 get-set [] n m v lt = absurd (omega arith)
 get-set (w ∷ words) zero zero v lt = refl
 get-set (w ∷ words) zero (suc m) v lt = rw (ne_eqb 0 (suc m) (λ e. omega arith)) refl
@@ -380,7 +380,7 @@ all_one p base w b (suc k) h =
       | inr ne ↦ rw (ne_eqb (bit_at w b) 1 ne) later
     ]
 
-and_none : (a : Bool) → (a && false) ≡ false
+pub and_none : (a : Bool) → (a && false) ≡ false
 and_none true = refl
 and_none false = refl
 

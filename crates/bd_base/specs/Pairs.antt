@@ -27,3 +27,7 @@ after_of order i = map (λ p. p.1) (filter (λ p. p.0 == i) order)
 -- whether i is before k wherever i is before some j and j is before k
 abbrev pub is_closed : List (ℕ × ℕ) → Bool
 is_closed order = list_all (λ p. list_all (λ q. not (p.1 == q.0) || is_before order p.0 q.1) order) order
+
+-- the positions that are before j
+abbrev pub before_of : List (ℕ × ℕ) → ℕ → List ℕ
+before_of order j = map (λ p. p.0) (filter (λ p. p.1 == j) order)

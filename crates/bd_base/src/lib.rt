@@ -5,13 +5,16 @@
 //! its facts after every call, that `Items` and `PairList` are the lists that they were made of, and that a
 //! shelf or a sink answers an error only where its trait says: where it tells so, or a count rose in the call,
 //! or memory was wanting.
-//! No clause shows how sets and pairs are stored: they are walked by `iter` and asked by `has`.
+//! No clause shows how sets and pairs are stored: they are walked by `iter` and asked by `has`. Both are
+//! words of 64 bits: a set as plain words or as the words that aren't 0, and pairs that rise as rows, one for
+//! each first position; other pairs stand as they were given.
 #![tactic(auto)]
 
 mod cells;
 mod facts;
 mod ids;
 mod items;
+mod owned_row;
 mod pairs;
 mod places;
 mod row;
@@ -25,6 +28,7 @@ mod word_sets;
 pub use facts::{FactSet, Facts};
 pub use ids::{ActionId, FactId, NoMemory, NodeId};
 pub use items::{FromItems, Items};
+pub use owned_row::OwnedRow;
 pub use pairs::{PairList, Pairs};
 pub use row::{Row, RowPlaces};
 pub use shelf::{DirShelf, MemShelf, Shelf, ShelfErr};

@@ -1,7 +1,9 @@
-ghost use Rattle.std.specs.Prelude.{◌≡◌, ◌↔◌, ◌+◌, ◌-◌, ◌<◌, ◌++◌, IfOk, OnOk, IsTrue, slice_get, length};
-ghost use Rattle.bd_base.specs.Pairs.{after_of, before_each, is_before, is_closed, total_order};
+ghost use Rattle.std.specs.Prelude.{◌≡◌, ◌↔◌, [], ◌+◌, ◌-◌, ◌<◌, ◌++◌, IfOk, OnOk, IsTrue, slice_get, length};
+ghost use Rattle.bd_base.specs.Facts.{plus};
+ghost use Rattle.bd_base.specs.Pairs.{after_of, before_each, before_of, is_before, is_closed, total_order};
 
 use crate::NoMemory;
+use crate::owned_row::OwnedRow;
 use crate::row::Row;
 use crate::row_building::{rows_of, total_rows};
 use crate::rows::{ROW_LIMIT, RowPairs, Rows};
@@ -101,6 +103,16 @@ impl PairList {
         }
     }
 
+    /// The set of the positions that are before j.
+    pub fn before(&self, alloc: Global, j: u32) -> Result<OwnedRow, NoMemory>
+        ensures { IfOk result (λ row. row ≡ plus [] (before_of self.now j)) }
+    {
+        match &self.form {
+            Form::Listed(_) => walk_before(alloc, self, j),
+            Form::InRows(rows) => rows.before(alloc, j),
+        }
+    }
+
     /// Whether i is before k wherever i is before some j and j is before k.
     pub fn is_closed(&self) -> bool
         ensures { result ≡ is_closed self.now }
@@ -150,6 +162,19 @@ impl PairList {
         };
         Ok(PairList { form })
     }
+}
+
+// The set of the positions that are before j, pair by pair.
+fn walk_before(alloc: Global, order: &PairList, j: u32) -> Result<OwnedRow, NoMemory>
+    ensures { IfOk result (λ row. row ≡ plus [] (before_of order.now j)) }
+{
+    let mut row = OwnedRow::new(alloc);
+    for p in order.iter() {
+        if p.1 == j {
+            row.put(p.0)?;
+        }
+    }
+    Ok(row)
 }
 
 // Whether the order of n positions puts each before all later ones, pair by pair.

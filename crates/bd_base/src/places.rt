@@ -73,6 +73,15 @@ pub(crate) fn run_word(base: u32, from: u32, to: u32) -> u64
     requires { base + 64 ≤ 2 ^ 32 - 1 }
     ensures { bits_of base result ≡ upto (max base from) (min (base + 64) to - max base from) }
 {
+    if from <= base && base + 64 <= to {
+        return u64::MAX;
+    }
+    if base + 64 <= from {
+        return 0;
+    }
+    if to <= base {
+        return 0;
+    }
     let low = from.max(base) - base;
     let high = to.min(base + 64).max(base) - base;
     if low >= high {

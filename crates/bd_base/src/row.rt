@@ -1,11 +1,12 @@
 // The positions that one position is before.
-ghost use Rattle.std.specs.Prelude.{◌≡◌, ◌≤◌, ◌∷◌, [], length, MatchOption};
+ghost use Rattle.std.specs.Int.{bit_at};
+ghost use Rattle.std.specs.Prelude.{◌≡◌, ℕ, ◌+◌, ◌*◌, ◌<◌, ◌^◌, ◌==◌, ◌≤◌, ◌∷◌, [], length, IfSome, MatchOption};
 ghost use Rattle.bd_base.specs.Bits.{row_of};
 ghost use Rattle.bd_base.specs.Facts.{has, is_subset};
 ghost use Rattle.bd_base.specs.Pairs.{after_of, is_before};
 
 use crate::places::{Places, has_place};
-use crate::word_sets::words_within;
+use crate::word_sets::{word_at, words_within};
 use std::marker::Model;
 
 #[derive(Debug, Drop)]
@@ -35,7 +36,7 @@ impl<'a> Model for Row<'a> {
 
 impl<'a> Row<'a> {
     pub(crate) fn of_words(words: &'a [u64]) -> Row<'a>
-        requires { length words.now ≤ 128 }
+        requires { length words.now ≤ 2 ^ 26 }
         ensures { result ≡ row_of 0 words.now }
     {
         Row {
@@ -82,7 +83,42 @@ impl<'a> Row<'a> {
         self.walks_within(of)
     }
 
+    /// The words of the positions, where it is stored as words.
+    pub(crate) fn words(&self) -> Option<&'a [u64]>
+        ensures { IfSome result (λ words. (row_of 0 words.now ≡ self.now) × (length words.now ≤ 2 ^ 26)) }
+    {
+        match &self.form {
+            Form::Words(words) => Some(words),
+            Form::Listed(_, _) => None,
+        }
+    }
+
+    /// The word of the 64 positions from 64 n on.
+    pub(crate) fn word(&self, n: u32) -> u64
+        requires { n < 2 ^ 26 }
+        ensures { (b : ℕ) → b < 64 → has self.now (64 * n + b) ≡ (bit_at result b == 1) }
+    {
+        match &self.form {
+            Form::Words(words) => word_at(words, n as usize),
+            Form::Listed(_, _) => self.tested_word(n),
+        }
+    }
+
     // The same, position by position.
+    fn tested_word(&self, n: u32) -> u64
+        requires { n < 2 ^ 26 }
+        ensures { (b : ℕ) → b < 64 → has self.now (64 * n + b) ≡ (bit_at result b == 1) }
+    {
+        let mut word = 0;
+        for b in 0..64 {
+            if self.has(64 * n + b) {
+                word |= 1 << b;
+            }
+        }
+        word
+    }
+
+    // Whether each position of the row is in the other, position by position.
     fn walks_within(&self, of: &Row<'_>) -> bool
         ensures { result ≡ is_subset self.now of.now }
     {

@@ -7,6 +7,7 @@ ghost use Rattle.bd_base.specs.Rows.{pairs_with};
 use crate::NoMemory;
 use crate::places::{fill_run, push_place};
 use crate::rows::{ROW_LIMIT, Rows};
+use crate::word_sets::clear_word;
 use std::alloc::Global;
 use std::marker::Model;
 
@@ -104,11 +105,13 @@ pub(crate) fn total_rows(alloc: Global, n: u32) -> Result<Option<Rows>, NoMemory
     let before_last = n.saturating_sub(1);
     let mut row = Vec::new(alloc);
     let mut rows = Rows::with_room(alloc, before_last, (n + 63) / 64)?;
+    fill_run(&mut row, n.min(1), n)?;
     for i in 0..before_last {
-        fill_run(&mut row, i + 1, n)?;
         if !rows.push_row(i, &row)? {
             return Ok(None);
         }
+        let next = i + 1;
+        clear_word(&mut row, next as usize / 64, 1 << (next % 64));
     }
     Ok(Some(rows))
 }

@@ -1,10 +1,12 @@
 // An order of less than 8192 positions as rows of words: row i holds the positions that i is before.
 ghost use Rattle.std.specs.Prelude.{◌≡◌, ◌↔◌, ℕ, ◌+◌, ◌-◌, ◌*◌, ◌<◌, ◌≤◌, ◌++◌, ◌∷◌, [], List, true, max, map, length, IfOk, OnOk, IsTrue, slice_get};
 ghost use Rattle.bd_base.specs.Bits.{row_of};
-ghost use Rattle.bd_base.specs.Pairs.{after_of, is_before, total_order};
+ghost use Rattle.bd_base.specs.Facts.{plus};
+ghost use Rattle.bd_base.specs.Pairs.{after_of, before_of, is_before, total_order};
 ghost use Rattle.bd_base.specs.Rows.{AreSpans, pairs_of, pairs_with, words_at};
 
 use crate::NoMemory;
+use crate::owned_row::OwnedRow;
 use crate::places::{Places, count_places, has_place, is_run};
 use std::alloc::Global;
 use std::marker::Model;
@@ -203,6 +205,20 @@ impl Rows {
             }
         }
         true
+    }
+
+    /// The set of the positions that are before j.
+    pub(crate) fn before(&self, alloc: Global, j: u32) -> Result<OwnedRow, NoMemory>
+        ensures { IfOk result (λ row. row ≡ plus [] (before_of self.now j)) }
+    {
+        let mut row = OwnedRow::new(alloc);
+        let end = self.first + self.spans.len() as u32;
+        for i in 0..end {
+            if self.has(i, j) {
+                row.put(i)?;
+            }
+        }
+        Ok(row)
     }
 
     /// The same rows.

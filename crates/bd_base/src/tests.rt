@@ -156,6 +156,23 @@ fn pairs_that_rise_are_rows(rt: HostRuntime) -> Result<(), Fail> {
 }
 
 #[test]
+fn rows_of_an_order_are_asked(rt: HostRuntime) -> Result<(), Fail> {
+    let alloc = rt.alloc();
+    let order = PairList::of(alloc, &[(0, 1), (0, 70), (1, 70)])?;
+    assert!(rt; order.is_closed());
+    assert!(rt; !PairList::of(alloc, &[(0, 1), (1, 70)])?.is_closed());
+    assert!(rt; order.after(0).has(70));
+    assert!(rt; !order.after(1).has(1));
+    assert!(rt; order.after(1).within(&order.after(0)));
+    assert!(rt; !order.after(0).within(&order.after(1)));
+    let mut before = order.before(alloc, 70)?;
+    assert_eq!(rt; before.row().iter().next(), Some(0));
+    before.meet(&order.after(0));
+    assert_eq!(rt; before.row().iter().next(), Some(1));
+    Ok(())
+}
+
+#[test]
 fn other_pairs_are_listed(rt: HostRuntime) -> Result<(), Fail> {
     let alloc = rt.alloc();
     assert!(rt; !PairList::of(alloc, &[(0, 2), (0, 1)])?.is_in_rows());
