@@ -210,7 +210,7 @@ module _ (kids : List Node) (i : ℕ) (k : Node) (lt : i < length kids) (is : k 
   pub top_left : greatest (joined (map ids_of (drop i kids))) ≡ max (greatest (ids_of k)) (greatest (joined (map ids_of (drop (i + 1) kids))))
   top_left = ap (λ z. greatest (joined (map ids_of z))) first_left ∙ greatest-append (ids_of k) (joined (map ids_of (drop (i + 1) kids)))
 
-has_nodes : (n : Node) → 0 < nodes_of n
+pub has_nodes : (n : Node) → 0 < nodes_of n
 has_nodes = by_node (λ n. 0 < nodes_of n) (λ id a. omega (arith, nodes_of-Step id a)) (λ id kids order e. omega (arith, nodes_of-Block id kids order))
 
 count_within : (kids : List Node) → length kids ≤ total (map nodes_of kids)

@@ -88,9 +88,6 @@ module _ (order : List (ℕ × ℕ)) (i : ℕ) where
       let e : n - j ≡ suc (n - (j + 1)) = omega arith in
       ap (λ z. find (is_gap order) (before_each i j z)) e ∙ cond-false _ _ _ gap
 
-  pub gap_at_end : (j n : ℕ) → n ≤ j → find (is_gap order) (before_each i j (n - j)) ≡ None
-  gap_at_end j n le = let e : n - j ≡ 0 = omega arith in ap (λ z. find (is_gap order) (before_each i j z)) e
-
 or_some : (o p : Option (ℕ × ℕ)) (x : ℕ × ℕ) → o ≡ Some x → option_or o p ≡ Some x
 or_some None p x e = absurd (cc)
 or_some (Some y) p x e = e
@@ -110,9 +107,6 @@ module _ (order : List (ℕ × ℕ)) (i n : ℕ) (lt : i < n) where
 
   pub row_has_none : None ≡ find (is_gap order) (before_each i (i + 1) (n - (i + 1))) → find (is_gap order) (in_turn i (n - i)) ≡ find (is_gap order) (in_turn (i + 1) (n - (i + 1)))
   row_has_none e = rows_split ∙ or_none _ _ (sym e)
-
-pub rows_end : (order : List (ℕ × ℕ)) (i n : ℕ) → n ≤ i → find (is_gap order) (in_turn i (n - i)) ≡ None
-rows_end order i n le = let e : n - i ≡ 0 = omega arith in ap (λ z. find (is_gap order) (in_turn i z)) e
 
 -- what a walk through rows keeps: the pairs that are left rise, begin with i or more, and have the rows from i on
 pub record RowsLeft (order : List (ℕ × ℕ)) (i : ℕ) (rest : List (ℕ × ℕ)) : Type 0 where

@@ -1,10 +1,13 @@
 pub mod BoundLemmas
 pub mod ChainLemmas
 pub mod ConvexLemmas
+pub mod DecidingLemmas
 pub mod GapLemmas
+pub mod HalvingLemmas
 pub mod ListedLemmas
 pub mod MisfitLemmas
 pub mod NodeLemmas
 pub mod OrderLemmas
+pub mod RefusedLemmas
 pub mod SpanLemmas
 pub mod TreeLemmas

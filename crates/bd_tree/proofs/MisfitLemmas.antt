@@ -39,7 +39,7 @@ less_along p q r (inl a) (inr b) = inl (omega (arith, b.0))
 less_along p q r (inr a) (inl b) = inl (omega (arith, a.0))
 less_along p q r (inr a) (inr b) = inr (a.0 ∙ b.0, omega (arith, a.1, b.1))
 
-less_trans : (p q r : ℕ × ℕ) → is_less p q ≡ true → is_less q r ≡ true → is_less p r ≡ true
+pub less_trans : (p q r : ℕ × ℕ) → is_less p q ≡ true → is_less q r ≡ true → is_less p r ≡ true
 less_trans p q r a b = less_from p r (less_along p q r (less_parts p q a) (less_parts q r b))
 
 module _ (n : ℕ) where

@@ -1,5 +1,6 @@
 pub mod Chain
 pub mod Convex
+pub mod Deciding
 pub mod Linearisation
 pub mod Misfit
 pub mod Order

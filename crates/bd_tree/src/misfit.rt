@@ -12,9 +12,13 @@ use crate::Node;
 use bd_base::{NoMemory, NodeId, PairList};
 use std::alloc::Global;
 use std::collections::BTreeSet;
+use std::marker::Model;
 
 /// No tree that `Tree::new` makes has more levels than this.
 pub const MAX_DEPTH: u32 = 64;
+
+// Up to so many positions, a `PairList` whose pairs rise answers at once whether it has a pair.
+const FEW: u32 = 8192;
 
 /// Why a node is no root of a tree: the first cause, in this order.
 #[derive(Clone, Copy, Debug, PartialEq, Eq)]
@@ -113,15 +117,68 @@ fn row_length(pairs: &[(u32, u32)], i: u32) -> usize
     pairs.len()
 }
 
+// Whether i is before j in a list of pairs that rises, which is halved again and again.
+fn has_rising(pairs: &[(u32, u32)], i: u32, j: u32) -> bool
+    requires { is_rising pairs.now ≡ true }
+    ensures { result ≡ is_before pairs.now i j }
+{
+    let mut left = pairs;
+    loop {
+        let (below, from) = left.split_at(left.len() / 2);
+        let Some((middle, above)) = from.split_first() else {
+            return false;
+        };
+        if is_less(*middle, (i, j)) {
+            left = above;
+        } else if is_less((i, j), *middle) {
+            left = below;
+        } else {
+            return true;
+        }
+    }
+}
+
+// An order whose pairs rise, seen as the pairs, and a list of them.
+#[derive(Drop)]
+struct Lookup<'a> {
+    order: &'a PairList,
+    pairs: &'a [(u32, u32)],
+    halves: bool,
+}
+
+impl<'a> Model for Lookup<'a> {
+    ghost use Rattle.std.specs.Prelude.{◌≡◌, List, ℕ, true};
+    ghost use Rattle.bd_tree.specs.Order.{is_rising};
+
+    ghost Value = { List (ℕ × ℕ) };
+
+    ghost view = { λ l. l.order.now };
+
+    ghost invariant = { λ l. (is_rising l.pairs.now ≡ true) × (l.pairs.now ≡ l.order.now) };
+}
+
+impl Lookup<'_> {
+    // Whether i is before j. An order of few positions answers at once, and the pairs of others are halved.
+    fn has(&self, i: u32, j: u32) -> bool
+        ensures { result ≡ is_before self.now i j }
+    {
+        if self.halves {
+            has_rising(self.pairs, i, j)
+        } else {
+            self.order.has(i, j)
+        }
+    }
+}
+
 // Whether j is after the second position of a pair of the row.
-fn reaches(order: &PairList, row: &[(u32, u32)], j: u32) -> bool
+fn reaches(order: &Lookup<'_>, row: &[(u32, u32)], j: u32) -> bool
     ensures { result ≡ list_any (λ p. is_before order.now p.1 j) row.now }
 {
     row.iter().any(|p| order.has(p.1, j))
 }
 
 // Whether closure needs the pair (i, j) and the list lacks it; the row is the pairs of i.
-fn is_gap(order: &PairList, row: &[(u32, u32)], i: u32, j: u32) -> bool
+fn is_gap(order: &Lookup<'_>, row: &[(u32, u32)], i: u32, j: u32) -> bool
     requires { leads_to order.now (i, j) ≡ list_any (λ p. is_before order.now p.1 j) row.now }
     ensures { result ≡ is_gap order.now (i, j) }
 {
@@ -129,7 +186,7 @@ fn is_gap(order: &PairList, row: &[(u32, u32)], i: u32, j: u32) -> bool
 }
 
 // The least pair with the first position i that closure needs and the list lacks; the row is the pairs of i.
-fn gap_in_row(order: &PairList, row: &[(u32, u32)], i: u32, n: u32) -> Option<(u32, u32)>
+fn gap_in_row(order: &Lookup<'_>, row: &[(u32, u32)], i: u32, n: u32) -> Option<(u32, u32)>
     requires within { i < n }
     requires row { (j : ℕ) → leads_to order.now (i, j) ≡ list_any (λ p. is_before order.now p.1 j) row.now }
     ensures { result ≡ find (is_gap order.now) (before_each i (i + 1) (n - (i + 1))) }
@@ -162,10 +219,15 @@ fn first_gap(alloc: Global, order: &PairList, n: u32) -> Result<Option<(u32, u32
     ensures { IfOk result (λ told. told ≡ first_gap n order.now) }
 {
     let pairs = pairs_of(alloc, order)?;
+    let lookup = Lookup {
+        order,
+        pairs: pairs.as_slice(),
+        halves: n > FEW,
+    };
     let mut rest = pairs.as_slice();
     for i in 0..n {
         let (row, behind) = rest.split_at(row_length(rest, i));
-        match gap_in_row(order, row, i, n) {
+        match gap_in_row(&lookup, row, i, n) {
             Some(gap) => return Ok(Some(gap)),
             None => rest = behind,
         }

@@ -1,5 +1,6 @@
-ghost use Rattle.std.specs.Prelude.{◌≡◌, ◌+◌, ◌<◌, ◌≤◌, ◌^◌, ◌↔◌, None, false, length, IfOk};
+ghost use Rattle.std.specs.Prelude.{◌≡◌, ◌+◌, ◌<◌, ◌≤◌, ◌^◌, ◌↔◌, None, false, length, IfOk, IsTrue};
 
+use crate::deciding::linearises;
 use crate::misfit::first_misfit;
 use crate::{Misfit, Node};
 use bd_base::{ActList, ActionId, FromItems, Items, NoMemory, NodeId, PairList};
@@ -88,6 +89,18 @@ impl Tree {
         let mut list = Vec::new(alloc);
         self.root.list_into(&mut list)?;
         Ok(Items::of(list))
+    }
+
+    /// Whether the list is a linearisation of it, by the definition of the tree alone.
+    ///
+    /// The parts of a block's kids are as long as the kids have steps, so only which kid comes next may be open, where
+    /// actions stand several times. Then it goes back, and keeps which sets of remaining kids were refused: in the worst
+    /// case time and memory grow exponentially with the number of kids of a block.
+    pub fn is_linearisation(&self, alloc: Global, list: &[ActionId]) -> Result<bool, NoMemory>
+        requires { nodes_of self.now < 2 ^ 32 }
+        ensures { IfOk result (λ told. IsTrue told ↔ IsLinearisation self.now list.now) }
+    {
+        linearises(alloc, &self.root, list)
     }
 
     /// How many steps it has.
