@@ -4,6 +4,8 @@ pub mod Faultless
 pub mod InRange
 pub mod Members
 pub mod OneLevel
+pub mod PastLemmas
+pub mod RowLemmas
 pub mod Runs
 pub mod SetLemmas
 pub mod Steps

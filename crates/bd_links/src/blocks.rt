@@ -6,9 +6,8 @@ ghost use Rattle.bd_links.specs.Faults.{block_fault};
 ghost use Rattle.bd_links.specs.Judged.{Judges};
 
 use crate::in_turn::{effects_in_turn, judge_in_turn};
-use crate::links::fault_of_links;
 use crate::parts::{Child, Effects, Stop};
-use crate::sets::effects_of_links;
+use crate::sets::{effects_of_links, judge_links};
 use bd_base::{NoMemory, NodeId, PairList};
 use std::alloc::Global;
 
@@ -24,21 +23,6 @@ pub fn effects_of_block(
         effects_in_turn(alloc, kids)
     } else {
         effects_of_links(alloc, order, kids)
-    }
-}
-
-// A block's effects or its first fault, by the links.
-fn judge_links(
-    alloc: Global,
-    block: NodeId,
-    order: &PairList,
-    kids: &[Child],
-) -> Result<Effects, Stop>
-    ensures { Judges (block_fault block order.now (enumerate_from 0 kids.now)) (block_effects order.now (enumerate_from 0 kids.now)) result }
-{
-    match fault_of_links(block, order, kids) {
-        Some(fault) => Err(Stop::Found(fault)),
-        None => Ok(effects_of_links(alloc, order, kids)?),
     }
 }
 

@@ -4,6 +4,9 @@
 //! deletes, that `check` answers `None` exactly where a tree is sound and else tells the first fault, that
 //! each linearisation of a sound tree is valid, that the chain of a list is sound exactly where the list is
 //! valid, and that `node_cost` is the sum over the node's steps.
+//! A block whose kids run in turn is judged by one pass over them. Any other is judged fact by fact: a map has
+//! the positions of the kids that give a fact and of those that delete it, and only those are asked how they
+//! are ordered. The bodies that follow the definitions kid by kid stay as what the tests compare these with.
 #![tactic(auto)]
 
 mod blocks;
@@ -13,6 +16,7 @@ mod law;
 mod links;
 mod parts;
 mod sets;
+mod touches;
 mod whole;
 
 pub use judging::check;
@@ -20,5 +24,11 @@ pub use law::{chains_fit, chains_run, linearisations_run};
 pub use parts::{Effects, Fault};
 pub use whole::{actions_fit, effects, node_cost};
 
+#[cfg(test)]
+mod lists_tests;
+#[cfg(test)]
+mod plain;
+#[cfg(test)]
+mod rows_tests;
 #[cfg(test)]
 mod tests;

@@ -1,16 +1,16 @@
-// The tests of one block over its kids, by position.
-ghost use Rattle.std.specs.Prelude.{◌≡◌, ◌&&◌, ◌||◌, ◌==◌, not, find, None};
-ghost use Rattle.std.specs.List.{list_all, list_any, enumerate_from};
+// The tests of one block by the positions of the kids that give a fact and of those that delete it.
+ghost use Rattle.std.specs.Prelude.{◌≡◌, ◌&&◌, ◌||◌, ◌==◌, true, false, not, find};
+ghost use Rattle.std.specs.List.{list_all, list_any};
 ghost use Rattle.bd_base.specs.Facts.{has};
 ghost use Rattle.bd_base.specs.Pairs.{is_before};
-ghost use Rattle.bd_links.specs.Effects.{links, is_linked, is_needed, gives, is_given, is_deleted, is_safe};
-ghost use Rattle.bd_links.specs.Faults.{block_fault};
+ghost use Rattle.bd_links.specs.Rows.{any_gives, any_links, gives_past, given_by, is_aside, is_later, linked_by, links_past, places_of};
 
-use crate::parts::{Child, Fault};
-use bd_base::{FactId, NodeId, PairList};
+use crate::parts::Touches;
+use crate::touches::{deleters, givers};
+use bd_base::{FactId, PairList};
 
-// Whether kid i is before kid j.
-fn comes_before(order: &PairList, i: usize, j: usize) -> bool
+/// Whether kid i is before kid j.
+pub fn comes_before(order: &PairList, i: usize, j: usize) -> bool
     ensures { result ≡ is_before order.now i j }
 {
     match (u32::try_from(i), u32::try_from(j)) {
@@ -31,147 +31,130 @@ fn has_pair(order: &PairList, i: usize, j: usize) -> bool
     false
 }
 
-// Kid d is i, or doesn't delete p, or is before i.
-fn is_clear(order: &PairList, p: FactId, i: usize, d: usize, other: &Child) -> bool
-    ensures { result ≡ (d == i || not (has other.now.effects.del p) || is_before order.now d i) }
+// Deleter d is kid j or after it.
+fn is_later(order: &PairList, j: usize, d: usize) -> bool
+    ensures { result ≡ is_later order.now j d }
 {
-    d == i || !other.effects.del.has(p) || comes_before(order, d, i)
+    d == j || comes_before(order, j, d)
 }
 
-fn gives_last(order: &PairList, kids: &[Child], p: FactId, i: usize) -> bool
-    ensures { result ≡ list_all (λ d. d.0 == i || not (has d.1.effects.del p) || is_before order.now d.0 i) (enumerate_from 0 kids.now) }
+// The first deleter that isn't kid j, nor after it.
+fn first_unordered(order: &PairList, deleters: &[usize], j: usize) -> Option<usize>
+    ensures { result ≡ find (λ d. not (is_later order.now j d)) deleters.now }
 {
-    kids.iter()
-        .enumerate()
-        .all(|(d, other)| is_clear(order, p, i, d, other))
+    for d in deleters {
+        if !is_later(order, j, *d) {
+            return Some(*d);
+        }
+    }
+    None
 }
 
-// Kid i gives p, and each other kid that deletes it is before i.
-fn gives_at(order: &PairList, kids: &[Child], p: FactId, i: usize, kid: &Child) -> bool
-    ensures { result ≡ gives order.now (enumerate_from 0 kids.now) p (i, kid.now) }
+/// Whether each other kid that deletes the fact is after kid j.
+pub fn all_later(order: &PairList, touches: &Touches, j: usize, p: FactId) -> bool
+    ensures { result ≡ list_all (is_later order.now j) (places_of touches.now.deletes p) }
 {
-    kid.effects.add.has(p) && gives_last(order, kids, p, i)
+    deleters(touches, p).iter().all(|d| is_later(order, j, *d))
+}
+
+// Deleter d is kid i or j, or is before i or after j.
+fn is_aside(order: &PairList, i: usize, j: usize, d: usize) -> bool
+    ensures { result ≡ is_aside order.now i j d }
+{
+    d == i || d == j || comes_before(order, d, i) || comes_before(order, j, d)
+}
+
+// The first deleter that isn't kid i or j, nor before i, nor after j.
+fn first_between(order: &PairList, deleters: &[usize], i: usize, j: usize) -> Option<usize>
+    ensures { result ≡ find (λ d. not (is_aside order.now i j d)) deleters.now }
+{
+    for d in deleters {
+        if !is_aside(order, i, j, *d) {
+            return Some(*d);
+        }
+    }
+    None
+}
+
+// Giver i is before kid j, and is the deleter m or after it.
+fn may_link(order: &PairList, m: usize, j: usize, i: usize) -> bool
+    ensures { result ≡ (is_before order.now i j && (m == i || is_before order.now m i)) }
+{
+    comes_before(order, i, j) && (m == i || comes_before(order, m, i))
+}
+
+// Whether a giver links kid j, where the deleter m isn't j, nor after it: only a giver that is m or after
+// it may. A deleter that was in the way of one giver is asked of the next in place of m.
+fn any_links_past(
+    order: &PairList,
+    givers: &[usize],
+    deleters: &[usize],
+    m: usize,
+    j: usize,
+) -> bool
+    requires found { has deleters.now m ≡ true }
+    requires unordered { is_later order.now j m ≡ false }
+    ensures { result ≡ any_links order.now givers.now deleters.now j }
+{
+    let mut m = m;
+    for i in givers {
+        if may_link(order, m, j, *i) {
+            match first_between(order, deleters, *i, j) {
+                None => return true,
+                Some(d) => m = d,
+            }
+        }
+    }
+    false
+}
+
+// Whether a giver is before kid j.
+fn any_before(order: &PairList, givers: &[usize], j: usize) -> bool
+    ensures { result ≡ list_any (λ i. is_before order.now i j) givers.now }
+{
+    givers.iter().any(|i| comes_before(order, *i, j))
+}
+
+// Whether a giver links kid j past the deleters.
+fn any_links(order: &PairList, givers: &[usize], deleters: &[usize], j: usize) -> bool
+    ensures { result ≡ any_links order.now givers.now deleters.now j }
+{
+    match first_unordered(order, deleters, j) {
+        None => any_before(order, givers, j),
+        Some(m) => any_links_past(order, givers, deleters, m, j),
+    }
+}
+
+/// Whether kid j is linked for the fact.
+pub fn is_linked(order: &PairList, touches: &Touches, j: usize, p: FactId) -> bool
+    ensures { result ≡ linked_by order.now touches.now j p }
+{
+    any_links(order, givers(touches, p), deleters(touches, p), j)
+}
+
+// Deleter d is giver i or before it.
+fn is_earlier(order: &PairList, i: usize, d: usize) -> bool
+    ensures { result ≡ (d == i || is_before order.now d i) }
+{
+    d == i || comes_before(order, d, i)
+}
+
+// Whether giver i comes after each other deleter.
+fn gives_past(order: &PairList, deleters: &[usize], i: usize) -> bool
+    ensures { result ≡ gives_past order.now deleters.now i }
+{
+    deleters.iter().all(|d| is_earlier(order, i, *d))
+}
+
+fn any_gives(order: &PairList, givers: &[usize], deleters: &[usize]) -> bool
+    ensures { result ≡ any_gives order.now givers.now deleters.now }
+{
+    givers.iter().any(|i| gives_past(order, deleters, *i))
 }
 
 /// Whether the block gives the fact.
-pub fn block_gives(order: &PairList, kids: &[Child], p: FactId) -> bool
-    ensures { result ≡ is_given order.now (enumerate_from 0 kids.now) p }
+pub fn is_given(order: &PairList, touches: &Touches, p: FactId) -> bool
+    ensures { result ≡ given_by order.now touches.now p }
 {
-    kids.iter()
-        .enumerate()
-        .any(|(i, kid)| gives_at(order, kids, p, i, kid))
-}
-
-fn any_deletes(kids: &[Child], p: FactId) -> bool
-    ensures { result ≡ list_any (λ d. has d.1.effects.del p) (enumerate_from 0 kids.now) }
-{
-    kids.iter()
-        .enumerate()
-        .any(|(_, kid)| kid.effects.del.has(p))
-}
-
-/// Whether the block deletes the fact.
-pub fn block_deletes(order: &PairList, kids: &[Child], p: FactId) -> bool
-    ensures { result ≡ is_deleted order.now (enumerate_from 0 kids.now) p }
-{
-    any_deletes(kids, p) && !block_gives(order, kids, p)
-}
-
-// Kid d is i or j, or doesn't delete p, or is before i or after j.
-fn is_aside(order: &PairList, p: FactId, i: usize, j: usize, d: usize, other: &Child) -> bool
-    ensures { result ≡ (d == i || d == j || not (has other.now.effects.del p) || is_before order.now d i || is_before order.now j d) }
-{
-    d == i
-        || d == j
-        || !other.effects.del.has(p)
-        || comes_before(order, d, i)
-        || comes_before(order, j, d)
-}
-
-fn all_aside(order: &PairList, kids: &[Child], p: FactId, i: usize, j: usize) -> bool
-    ensures { result ≡ list_all (λ d. d.0 == i || d.0 == j || not (has d.1.effects.del p) || is_before order.now d.0 i || is_before order.now j d.0) (enumerate_from 0 kids.now) }
-{
-    kids.iter()
-        .enumerate()
-        .all(|(d, other)| is_aside(order, p, i, j, d, other))
-}
-
-// Kid i links kid j for p.
-fn links_at(order: &PairList, kids: &[Child], j: usize, p: FactId, i: usize, kid: &Child) -> bool
-    ensures { result ≡ links order.now (enumerate_from 0 kids.now) j p (i, kid.now) }
-{
-    comes_before(order, i, j) && kid.effects.add.has(p) && all_aside(order, kids, p, i, j)
-}
-
-fn any_links(order: &PairList, kids: &[Child], j: usize, p: FactId) -> bool
-    ensures { result ≡ is_linked order.now (enumerate_from 0 kids.now) j p }
-{
-    kids.iter()
-        .enumerate()
-        .any(|(i, kid)| links_at(order, kids, j, p, i, kid))
-}
-
-// Kid j needs p and isn't linked for it.
-fn needs_at(order: &PairList, kids: &[Child], p: FactId, j: usize, kid: &Child) -> bool
-    ensures { result ≡ (has kid.now.effects.need p && not (is_linked order.now (enumerate_from 0 kids.now) j p)) }
-{
-    kid.effects.need.has(p) && !any_links(order, kids, j, p)
-}
-
-/// Whether the block needs the fact.
-pub fn block_needs(order: &PairList, kids: &[Child], p: FactId) -> bool
-    ensures { result ≡ is_needed order.now (enumerate_from 0 kids.now) p }
-{
-    kids.iter()
-        .enumerate()
-        .any(|(j, kid)| needs_at(order, kids, p, j, kid))
-}
-
-// Kid d is j, or doesn't delete p, or is after j.
-fn is_later(order: &PairList, p: FactId, j: usize, d: usize, other: &Child) -> bool
-    ensures { result ≡ (d == j || not (has other.now.effects.del p) || is_before order.now j d) }
-{
-    d == j || !other.effects.del.has(p) || comes_before(order, j, d)
-}
-
-fn all_later(order: &PairList, kids: &[Child], p: FactId, j: usize) -> bool
-    ensures { result ≡ list_all (λ d. d.0 == j || not (has d.1.effects.del p) || is_before order.now j d.0) (enumerate_from 0 kids.now) }
-{
-    kids.iter()
-        .enumerate()
-        .all(|(d, other)| is_later(order, p, j, d, other))
-}
-
-fn is_safe_at(order: &PairList, kids: &[Child], j: usize, kid: &Child, p: FactId) -> bool
-    ensures { result ≡ is_safe order.now (enumerate_from 0 kids.now) (j, kid.now) p }
-{
-    any_links(order, kids, j, p) || all_later(order, kids, p, j)
-}
-
-// The least fact that kid j needs and isn't safe for.
-fn first_unsafe(order: &PairList, kids: &[Child], j: usize, kid: &Child) -> Option<FactId>
-    ensures { result ≡ find (λ p. not (is_safe order.now (enumerate_from 0 kids.now) (j, kid.now) p)) kid.now.effects.need }
-{
-    for p in kid.effects.need.iter() {
-        if !is_safe_at(order, kids, j, kid, p) {
-            return Some(p);
-        }
-    }
-    None
-}
-
-/// The first fault of a block whose kids have none inside them.
-pub fn fault_of_links(block: NodeId, order: &PairList, kids: &[Child]) -> Option<Fault>
-    ensures { result ≡ block_fault block order.now (enumerate_from 0 kids.now) }
-{
-    for (j, kid) in kids.iter().enumerate() {
-        if let Some(fact) = first_unsafe(order, kids, j, kid) {
-            return Some(Fault::Inside {
-                block,
-                child: kid.id,
-                fact,
-            });
-        }
-    }
-    None
+    any_gives(order, givers(touches, p), deleters(touches, p))
 }

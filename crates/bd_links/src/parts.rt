@@ -1,5 +1,6 @@
 use bd_base::{FactId, FactSet, NoMemory, NodeId};
 use std::alloc::{AllocError, AllocFailed};
+use std::collections::HashMap;
 
 /// What a node needs, gives and deletes.
 #[derive(Debug, Drop)]
@@ -14,6 +15,16 @@ pub struct Effects {
 pub struct Child {
     pub id: NodeId,
     pub effects: Effects,
+}
+
+/// Positions of kids for each fact's number.
+pub type Places = HashMap<u32, Vec<usize>>;
+
+/// The positions of the kids that give each fact and of those that delete it, the last first.
+#[derive(Drop)]
+pub struct Touches {
+    pub gives: Places,
+    pub deletes: Places,
 }
 
 /// Why a tree isn't sound: inside a block a child needs a fact that it isn't linked for, and another child

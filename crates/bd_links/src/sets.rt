@@ -1,11 +1,16 @@
 // The effects of an action and of a block, as sets.
-ghost use Rattle.std.specs.Prelude.{◌≡◌, IfOk, Some};
+ghost use Rattle.std.specs.Prelude.{◌≡◌, not, filter, find, None, IfOk, Some};
 ghost use Rattle.std.specs.List.{enumerate_from};
+ghost use Rattle.bd_base.specs.Facts.{plus};
 ghost use Rattle.bd_links.specs.Effects.{all_facts, block_effects, step_effects};
+ghost use Rattle.bd_links.specs.Faults.{block_fault};
+ghost use Rattle.bd_links.specs.Judged.{Judges};
+ghost use Rattle.bd_links.specs.Rows.{Tells, linked_by, safe_by};
 
-use crate::links::{block_deletes, block_gives, block_needs};
-use crate::parts::{Child, Effects};
-use bd_base::{FactSet, NoMemory, PairList};
+use crate::links::{all_later, is_given, is_linked};
+use crate::parts::{Child, Effects, Fault, Stop, Touches};
+use crate::touches::touches_of;
+use bd_base::{FactId, FactSet, NoMemory, NodeId, PairList};
 use bd_task::Action;
 use std::alloc::Global;
 
@@ -20,30 +25,95 @@ pub fn action_effects(alloc: Global, action: &Action) -> Result<Effects, NoMemor
     })
 }
 
-fn needs_of_all(alloc: Global, kids: &[Child]) -> Result<FactSet, NoMemory>
-    ensures { IfOk result (λ s. s ≡ all_facts (λ e. e.need) (enumerate_from 0 kids.now)) }
+// Adds the facts that kid j needs and isn't linked for.
+fn need_unlinked(
+    alloc: Global,
+    order: &PairList,
+    touches: &Touches,
+    j: usize,
+    facts: &FactSet,
+    need: &mut FactSet,
+) -> Result<(), NoMemory>
+    ensures { IfOk result (λ _. need.new ≡ plus need.old (filter (λ p. not (linked_by order.now touches.now j p)) facts.now)) }
 {
-    let mut s = FactSet::new();
-    for kid in kids {
-        s.join(alloc, &kid.effects.need)?;
-    }
-    Ok(s)
-}
-
-fn needs_of_block(alloc: Global, order: &PairList, kids: &[Child]) -> Result<FactSet, NoMemory>
-    ensures { IfOk result (λ s. s ≡ (block_effects order.now (enumerate_from 0 kids.now)).need) }
-{
-    let facts = needs_of_all(alloc, kids)?;
-    let mut kept = FactSet::new();
-    for f in facts.iter() {
-        if block_needs(order, kids, f) {
-            kept.insert(alloc, f)?;
+    for p in facts.iter() {
+        if !is_linked(order, touches, j, p) {
+            need.insert(alloc, p)?;
         }
     }
-    Ok(kept)
+    Ok(())
 }
 
-fn adds_of_all(alloc: Global, kids: &[Child]) -> Result<FactSet, NoMemory>
+fn needs_of_block(
+    alloc: Global,
+    order: &PairList,
+    touches: &Touches,
+    kids: &[Child],
+) -> Result<FactSet, NoMemory>
+    requires { Tells touches.now (enumerate_from 0 kids.now) }
+    ensures { IfOk result (λ s. s ≡ (block_effects order.now (enumerate_from 0 kids.now)).need) }
+{
+    let mut need = FactSet::new();
+    for (j, kid) in kids.iter().enumerate() {
+        need_unlinked(alloc, order, touches, j, &kid.effects.need, &mut need)?;
+    }
+    Ok(need)
+}
+
+// The least of the facts that kid j isn't safe for. Where there is none, those that it isn't linked for are
+// added.
+fn judge_needs(
+    alloc: Global,
+    order: &PairList,
+    touches: &Touches,
+    j: usize,
+    facts: &FactSet,
+    need: &mut FactSet,
+) -> Result<Option<FactId>, NoMemory>
+    ensures told { IfOk result (λ f. f ≡ find (λ p. not (safe_by order.now touches.now j p)) facts.now) }
+    ensures need { IfOk result (λ f. f ≡ None → need.new ≡ plus need.old (filter (λ p. not (linked_by order.now touches.now j p)) facts.now)) }
+{
+    for p in facts.iter() {
+        if !is_linked(order, touches, j, p) {
+            if !all_later(order, touches, j, p) {
+                return Ok(Some(p));
+            }
+            need.insert(alloc, p)?;
+        }
+    }
+    Ok(None)
+}
+
+// What a block needs, or its first fault.
+fn judged_needs(
+    alloc: Global,
+    block: NodeId,
+    order: &PairList,
+    touches: &Touches,
+    kids: &[Child],
+) -> Result<FactSet, Stop>
+    requires { Tells touches.now (enumerate_from 0 kids.now) }
+    ensures { Judges (block_fault block order.now (enumerate_from 0 kids.now)) (block_effects order.now (enumerate_from 0 kids.now)).need result }
+{
+    let mut need = FactSet::new();
+    for (j, kid) in kids.iter().enumerate() {
+        let found = judge_needs(alloc, order, touches, j, &kid.effects.need, &mut need)?;
+        match found {
+            Some(fact) => {
+                return Err(Stop::Found(Fault::Inside {
+                    block,
+                    child: kid.id,
+                    fact,
+                }));
+            }
+            None => {}
+        }
+    }
+    Ok(need)
+}
+
+/// The facts that the kids give.
+pub fn adds_of_all(alloc: Global, kids: &[Child]) -> Result<FactSet, NoMemory>
     ensures { IfOk result (λ s. s ≡ all_facts (λ e. e.add) (enumerate_from 0 kids.now)) }
 {
     let mut s = FactSet::new();
@@ -53,20 +123,27 @@ fn adds_of_all(alloc: Global, kids: &[Child]) -> Result<FactSet, NoMemory>
     Ok(s)
 }
 
-fn adds_of_block(alloc: Global, order: &PairList, kids: &[Child]) -> Result<FactSet, NoMemory>
+fn adds_of_block(
+    alloc: Global,
+    order: &PairList,
+    touches: &Touches,
+    kids: &[Child],
+) -> Result<FactSet, NoMemory>
+    requires { Tells touches.now (enumerate_from 0 kids.now) }
     ensures { IfOk result (λ s. s ≡ (block_effects order.now (enumerate_from 0 kids.now)).add) }
 {
     let facts = adds_of_all(alloc, kids)?;
     let mut kept = FactSet::new();
     for f in facts.iter() {
-        if block_gives(order, kids, f) {
+        if is_given(order, touches, f) {
             kept.insert(alloc, f)?;
         }
     }
     Ok(kept)
 }
 
-fn dels_of_all(alloc: Global, kids: &[Child]) -> Result<FactSet, NoMemory>
+/// The facts that the kids delete.
+pub fn dels_of_all(alloc: Global, kids: &[Child]) -> Result<FactSet, NoMemory>
     ensures { IfOk result (λ s. s ≡ all_facts (λ e. e.del) (enumerate_from 0 kids.now)) }
 {
     let mut s = FactSet::new();
@@ -76,17 +153,22 @@ fn dels_of_all(alloc: Global, kids: &[Child]) -> Result<FactSet, NoMemory>
     Ok(s)
 }
 
-fn dels_of_block(alloc: Global, order: &PairList, kids: &[Child]) -> Result<FactSet, NoMemory>
-    ensures { IfOk result (λ s. s ≡ (block_effects order.now (enumerate_from 0 kids.now)).del) }
+// The effects of a block with these needs: it deletes what a kid deletes, and it doesn't give.
+fn effects_with(
+    alloc: Global,
+    order: &PairList,
+    touches: &Touches,
+    kids: &[Child],
+    need: FactSet,
+) -> Result<Effects, NoMemory>
+    requires touches { Tells touches.now (enumerate_from 0 kids.now) }
+    requires need { need ≡ (block_effects order.now (enumerate_from 0 kids.now)).need }
+    ensures { IfOk result (λ e. e ≡ block_effects order.now (enumerate_from 0 kids.now)) }
 {
-    let facts = dels_of_all(alloc, kids)?;
-    let mut kept = FactSet::new();
-    for f in facts.iter() {
-        if block_deletes(order, kids, f) {
-            kept.insert(alloc, f)?;
-        }
-    }
-    Ok(kept)
+    let add = adds_of_block(alloc, order, touches, kids)?;
+    let mut del = dels_of_all(alloc, kids)?;
+    del.minus(&add);
+    Ok(Effects { need, add, del })
 }
 
 /// What a block of these kids needs, gives and deletes, by its links.
@@ -97,9 +179,21 @@ pub fn effects_of_links(
 ) -> Result<Effects, NoMemory>
     ensures { IfOk result (λ e. e ≡ block_effects order.now (enumerate_from 0 kids.now)) }
 {
-    Ok(Effects {
-        need: needs_of_block(alloc, order, kids)?,
-        add: adds_of_block(alloc, order, kids)?,
-        del: dels_of_block(alloc, order, kids)?,
-    })
+    let touches = touches_of(alloc, kids)?;
+    let need = needs_of_block(alloc, order, &touches, kids)?;
+    effects_with(alloc, order, &touches, kids, need)
+}
+
+/// A block's effects or its first fault, by its links.
+pub fn judge_links(
+    alloc: Global,
+    block: NodeId,
+    order: &PairList,
+    kids: &[Child],
+) -> Result<Effects, Stop>
+    ensures { Judges (block_fault block order.now (enumerate_from 0 kids.now)) (block_effects order.now (enumerate_from 0 kids.now)) result }
+{
+    let touches = touches_of(alloc, kids)?;
+    let need = judged_needs(alloc, block, order, &touches, kids)?;
+    Ok(effects_with(alloc, order, &touches, kids, need)?)
 }

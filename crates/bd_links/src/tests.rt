@@ -5,8 +5,8 @@ ghost use Rattle.bd_tree.specs.declared.node.Node.{Step, Block};
 
 use crate::blocks::{effects_of_block, judge_block};
 use crate::in_turn::{effects_in_turn, judge_in_turn};
-use crate::links::fault_of_links;
 use crate::parts::{Child, Stop};
+use crate::plain::fault_of_links;
 use crate::sets::effects_of_links;
 use crate::{
     Effects, Fault, actions_fit, chains_run, check, effects, linearisations_run, node_cost,
@@ -18,17 +18,22 @@ use std::alloc::Global;
 use std::test::Fail;
 
 // The facts a b c x y, and the actions of moves between a, b and c and of what is got there.
-const AB: ActionId = ActionId(0);
+pub const AB: ActionId = ActionId(0);
 
-const BA: ActionId = ActionId(1);
+pub const BA: ActionId = ActionId(1);
 
-const AC: ActionId = ActionId(2);
+pub const AC: ActionId = ActionId(2);
 
-const GET_X: ActionId = ActionId(3);
+pub const GET_X: ActionId = ActionId(3);
 
-const GET_Y: ActionId = ActionId(4);
+pub const GET_Y: ActionId = ActionId(4);
 
-fn set(alloc: Global, facts: &[u32]) -> Result<FactSet, NoMemory>
+pub const CA: ActionId = ActionId(5);
+
+/// It needs, adds and deletes nothing.
+pub const REST: ActionId = ActionId(6);
+
+pub fn set(alloc: Global, facts: &[u32]) -> Result<FactSet, NoMemory>
     ensures { IfOk result (λ s. s ≡ plus [] facts.now) }
 {
     let mut s = FactSet::new();
@@ -57,7 +62,7 @@ fn action(
     })
 }
 
-fn names(alloc: Global) -> Result<Vec<Text>, NoMemory>
+pub fn names(alloc: Global) -> Result<Vec<Text>, NoMemory>
     ensures { IfOk result (λ v. length v.items ≡ 5) }
 {
     let mut names = Vec::new(alloc);
@@ -69,8 +74,8 @@ fn names(alloc: Global) -> Result<Vec<Text>, NoMemory>
     Ok(names)
 }
 
-fn actions(alloc: Global) -> Result<Vec<Action>, NoMemory>
-    ensures { IfOk result (λ v. AreActions 5 v.items × (length v.items ≡ 5)) }
+pub fn actions(alloc: Global) -> Result<Vec<Action>, NoMemory>
+    ensures { IfOk result (λ v. AreActions 5 v.items × (length v.items ≡ 7)) }
 {
     let mut actions = Vec::new(alloc);
     actions.push(action(alloc, 3, &[0], &[1], &[0])?)?;
@@ -78,6 +83,8 @@ fn actions(alloc: Global) -> Result<Vec<Action>, NoMemory>
     actions.push(action(alloc, 2, &[0], &[2], &[0])?)?;
     actions.push(action(alloc, 1, &[1], &[3], &[])?)?;
     actions.push(action(alloc, 1, &[2], &[4], &[])?)?;
+    actions.push(action(alloc, 2, &[2], &[0], &[2])?)?;
+    actions.push(action(alloc, 1, &[], &[], &[])?)?;
     Ok(actions)
 }
 
@@ -105,7 +112,7 @@ fn inside(block: u64, child: u64, fact: u32) -> Option<Option<Fault>> {
     }))
 }
 
-fn step(id: u64, action: ActionId) -> Node
+pub fn step(id: u64, action: ActionId) -> Node
     ensures { result ≡ Step id action }
 {
     Node::Step {
@@ -218,6 +225,33 @@ fn a_chain_has_its_effects_and_cost(rt: HostRuntime) -> Result<(), Fail> {
     Ok(())
 }
 
+// Block 7: from a to b, get x, and back.
+fn round_trip(alloc: Global) -> Result<Node, NoMemory> {
+    let mut kids = Vec::new(alloc);
+    kids.push(step(8, AB))?;
+    kids.push(step(9, GET_X))?;
+    kids.push(step(10, BA))?;
+    Ok(Node::Block {
+        id: NodeId(7),
+        kids: Items::of(kids),
+        order: PairList::total(alloc, 3)?,
+    })
+}
+
+#[test]
+fn a_round_trip_takes_nothing_but_where_it_was(rt: HostRuntime) -> Result<(), Fail> {
+    let task = trip(rt.alloc())?;
+    let node = round_trip(rt.alloc())?;
+    if !actions_fit(&task, &node) {
+        return Err(Fail::from("out of range"));
+    }
+    let e = effects(rt.alloc(), &task, &node)?;
+    assert!(rt; is_set(&e.need, &[0]));
+    assert!(rt; is_set(&e.add, &[0, 3]));
+    assert!(rt; is_set(&e.del, &[1]));
+    Ok(())
+}
+
 fn child(alloc: Global, id: u64, pre: &[u32], add: &[u32], del: &[u32]) -> Result<Child, NoMemory> {
     Ok(Child {
         id: NodeId(id),
@@ -241,7 +275,7 @@ fn kids(alloc: Global, breaks: bool) -> Result<Vec<Child>, NoMemory> {
     Ok(kids)
 }
 
-fn same(e: &Effects, f: &Effects) -> bool {
+pub fn same(e: &Effects, f: &Effects) -> bool {
     e.need.len() == f.need.len()
         && e.need.subset(&f.need)
         && e.add.len() == f.add.len()
@@ -317,7 +351,7 @@ fn actions_of_another_task_dont_fit(rt: HostRuntime) -> Result<(), Fail> {
     chains_run();
     let task = trip(rt.alloc())?;
     let fits = Tree::chain(rt.alloc(), &[AB, GET_Y])?;
-    let strays = Tree::chain(rt.alloc(), &[AB, ActionId(5)])?;
+    let strays = Tree::chain(rt.alloc(), &[AB, ActionId(7)])?;
     assert!(rt; actions_fit(&task, fits.root()));
     assert!(rt; !actions_fit(&task, strays.root()));
     Ok(())

@@ -1,12 +1,5 @@
-use Rattle.std.proofs.Common.{◌≡◌, [], rules}
-use Rattle.std.specs.List.{enumerate_from}
-use Rattle.bd_links.specs.Effects.{is_needed, all_facts}
-use Rattle.bd_links.specs.declared.parts.Effects.{Effects}
-use Rattle.bd_links.proofs.SetLemmas.{kept_all, rising-all_facts}
+use Rattle.bd_links.proofs.PastLemmas.{needs_done}
 use Rattle.bd_links.proofs.sets.needs_of_block.Goals as goal
 
 pub returns : goal.returns
-returns c =
-    let kids = enumerate_from 0 c.args.kids.now in
-    let done : c.loop-f.f-iterator ≡ [] = search rules in
-    kept_all (is_needed c.args.order.now kids) (all_facts (λ (e : Effects). e.need) kids) _ _ done (rising-all_facts (λ (e : Effects). e.need) kids) c.loop-f.invariant
+returns c = needs_done c.args.order.now c.args.touches.now c.args.kids.now c.requires c.loop-j.need c.loop-j.j c.loop-j-test.false c.loop-j.invariant

@@ -1,7 +1,7 @@
 use Rattle.std.proofs.Common.{◌≡◌, not}
 use Rattle.std.specs.List.{find, enumerate_from}
 use Rattle.bd_links.specs.Effects.{is_safe}
-use Rattle.bd_links.proofs.links.first_unsafe.Given as goal
+use Rattle.bd_links.proofs.plain.first_unsafe.Given as goal
 
 abbrev pub invariant-loop-p : goal.invariant-loop-p
 invariant-loop-p l =

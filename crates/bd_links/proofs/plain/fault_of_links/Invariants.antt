@@ -1,7 +1,7 @@
 use Rattle.std.proofs.Common.{◌≡◌, map, drop}
 use Rattle.std.specs.List.{enumerate_from}
 use Rattle.bd_links.specs.Faults.{first_of, kid_fault, block_fault}
-use Rattle.bd_links.proofs.links.fault_of_links.Given as goal
+use Rattle.bd_links.proofs.plain.fault_of_links.Given as goal
 
 abbrev pub invariant-loop-j : goal.invariant-loop-j
 invariant-loop-j l =

@@ -6,7 +6,7 @@ use Rattle.bd_links.specs.declared.parts.Fault.TheVariants.{Inside}
 use Rattle.bd_links.specs.Effects.{Kid, Order, is_safe}
 use Rattle.bd_links.specs.Faults.{first_of, inside, kid_fault, block_fault}
 use Rattle.bd_links.proofs.Steps.{drop-at}
-use Rattle.bd_links.proofs.links.fault_of_links.Goals as goal
+use Rattle.bd_links.proofs.plain.fault_of_links.Goals as goal
 
 fault_here : (block : ℕ) (order : Order) (all : List Kid) (kids : List Child) (j : ℕ) (kid : Child) (p : ℕ) → j < length kids → kid ≡ get_or kids j kid →
     Some p ≡ find (λ p. not (is_safe order all (j, kid) p)) kid.effects.need →

@@ -3,7 +3,7 @@ use Rattle.std.specs.List.{enumerate_from}
 use Rattle.bd_base.specs.Facts.{plus}
 use Rattle.bd_links.specs.Effects.{is_deleted, all_facts}
 use Rattle.bd_links.specs.declared.parts.Effects.{Effects}
-use Rattle.bd_links.proofs.sets.dels_of_block.Given as goal
+use Rattle.bd_links.proofs.plain.dels_of_block.Given as goal
 
 abbrev pub invariant-loop-f : goal.invariant-loop-f
 invariant-loop-f l =
