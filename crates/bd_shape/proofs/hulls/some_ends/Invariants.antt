@@ -1,0 +1,10 @@
+use Rattle.std.proofs.Common.{◌≡◌, ◌&&◌, [], ◌∷◌, drop}
+use Rattle.std.specs.List.{list_any, enumerate_from}
+use Rattle.bd_base.specs.Pairs.{is_before}
+use Rattle.bd_tree.specs.Convex.{is_member}
+use Rattle.bd_shape.proofs.hulls.some_ends.Given as goal
+
+abbrev pub invariant-loop-b : goal.invariant-loop-b
+invariant-loop-b l =
+    list_any (λ b. is_member (l.fn.j ∷ []) b && list_any (λ k. is_before l.order l.a k.0 && is_before l.order k.0 b.0) (enumerate_from 0 l.kids)) (enumerate_from l.b (drop l.b l.kids))
+    ≡ list_any (λ b. is_member (l.fn.j ∷ []) b && list_any (λ k. is_before l.order l.a k.0 && is_before l.order k.0 b.0) (enumerate_from 0 l.kids)) (enumerate_from 0 l.kids)

@@ -1,0 +1,7 @@
+use Rattle.std.proofs.Common.{◌≡◌, ◌++◌, drop, map}
+use Rattle.bd_tree.specs.declared.node.Node.{Node}
+use Rattle.bd_shape.specs.Unordered.{unordered}
+use Rattle.bd_shape.proofs.unordering.+new_node.Given as goal
+
+abbrev pub invariant-loop-kid : goal.invariant-loop-kid
+invariant-loop-kid l = l.copies.items ++ map (λ (k : Node). unordered k l.block l.i l.j) (drop l.kid-index l.kids) ≡ map (λ (k : Node). unordered k l.block l.i l.j) l.kids

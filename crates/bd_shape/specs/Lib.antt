@@ -1,0 +1,10 @@
+pub mod Grouped
+pub mod Hull
+pub mod Kids
+pub mod Measures
+pub mod Placed
+pub mod Remade
+pub mod Restricted
+pub mod Sides
+pub mod Tightened
+pub mod Unordered
