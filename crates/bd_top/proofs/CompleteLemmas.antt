@@ -1,10 +1,11 @@
 -- A good script is run, where nothing outside fails: every other status contradicts what it comes with.
-use Rattle.std.proofs.Common.{◌≡◌, ℕ, ◌<◌, ◌≤◌, Bool, List, Option, Some, None, ◌⊎◌, inl, inr, length, sym, subst, arith}
+use Rattle.std.proofs.Common.{◌≡◌, ℕ, ◌<◌, ◌≤◌, Bool, List, Option, Some, None, ◌⊎◌, inl, inr, length, sym, ap, ◌∙◌, subst, arith}
 use Rattle.bd_base.specs.Causes.{Rose}
 use Rattle.bd_base.specs.Shelf.{Told, text}
 use Rattle.bd_base.specs.declared.text_err.Limit.{Limit}
 use Rattle.bd_base.specs.declared.text_err.Limit.TheVariants as limit
 use Rattle.bd_task.specs.Valid.{IsValid}
+use Rattle.bd_links.specs.Sound.{IsSound}
 use Rattle.seq_check.specs.declared.judging.Broken.TheVariants as broken
 use Rattle.script_text.specs.declared.script.Script.{Script}
 use Rattle.script_text.specs.Limits.{over_of}
@@ -14,7 +15,7 @@ use Rattle.bd_top.specs.declared.record.RunRecord.{RunRecord}
 use Rattle.bd_top.specs.declared.status.File.TheVariants as file
 use Rattle.bd_top.specs.declared.status.Status.{Status}
 use Rattle.bd_top.specs.declared.status.Status.TheVariants as status
-use Rattle.bd_top.specs.Prepared.{Counts, WasRead, IsToldAs, IsTextRefusal, IsNamedRefusal, IsRefusal, IsUnread, IsLong, IsBroken, IsOver, IsNoScript}
+use Rattle.bd_top.specs.Prepared.{Counts, WasRead, IsToldAs, IsTextRefusal, IsNamedRefusal, IsRefusal, IsUnread, IsLong, IsBroken, IsOver, IsNoScript, IsUnsoundStart, HasUnsoundStart}
 use Rattle.bd_top.specs.Words.{script_named}
 use Rattle.bd_top.specs.Run.{Ends, OfRun, IsWriteFault, IsRefused, IsGood, IsFaultless, IsDoneOrNoMemory}
 use Rattle.bd_top.specs.Taken.{Taken, HasFailed}
@@ -32,6 +33,9 @@ module _ (words : List (List ℕ)) (tells : List ℕ → Told) (script : Script)
   no_over : (s : Script) (o : Limit × ℕ) → s ≡ script → over_of s ≡ Some o → ⊥
   no_over s o same e = differs (over_of script) o good.within (subst (λ (z : Script). over_of z ≡ Some o) same e)
 
+  not_unsound : (s : Script) → s ≡ script → HasUnsoundStart s → ⊥
+  not_unsound s same h = h.unsound (subst (λ (z : Script). IsSound z.task h.root) (sym same) (good.starts h.root (ap (λ (z : Script). z.start) (sym same) ∙ h.starts)))
+
   read_same : (read : List ℕ) → IsToldAs (tells good.name) read → good.read ≡ read
   read_same read told = subst (λ z. IsToldAs z read) good.told told
 
@@ -42,7 +46,8 @@ module _ (words : List (List ℕ)) (tells : List ℕ → Told) (script : Script)
   no_text_refusal t (status.PlanInvalid (broken.Step at f)) line is h = not_valid h.script (same_script t h.script is h.spelled) h.invalid
   no_text_refusal t (status.PlanInvalid (broken.Goal f)) line is h = not_valid h.script (same_script t h.script is h.spelled) h.invalid
   no_text_refusal t (status.PlanInvalid broken.NoMemory) line is h = h
-  no_text_refusal t (status.TextRefused file.Script place cause) line is h = h.none script (subst (λ z. SpellsScript z script) is good.spelled)
+  no_text_refusal t (status.TextRefused file.Script place cause) line is (inl h) = h.none script (subst (λ z. SpellsScript z script) is good.spelled)
+  no_text_refusal t (status.TextRefused file.Script place cause) line is (inr h) = not_unsound h.script (same_script t h.script is h.spelled) h.fails.start
   no_text_refusal t (status.TextRefused file.Domain place cause) line is h = h
   no_text_refusal t (status.TextRefused file.Problem place cause) line is h = h
   no_text_refusal t (status.TextRefused file.Plan place cause) line is h = h

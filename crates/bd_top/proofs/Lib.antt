@@ -1,4 +1,5 @@
 pub mod RunLemmas
+pub mod NamedLemmas
 pub mod UnreadLemmas
 pub mod CompleteLemmas
 pub mod TextLemmas

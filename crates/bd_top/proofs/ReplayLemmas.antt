@@ -9,13 +9,12 @@ use Rattle.plan_core.specs.Law.{IsLawful, after_reply}
 use Rattle.plan_core.proofs.LawLemmas.{replay-append}
 use Rattle.plan_core.specs.Replies.{Replies}
 use Rattle.plan_core.specs.declared.offer.Offer.{Offer}
-use Rattle.plan_core.specs.declared.offer.Offer.TheVariants.{Replace}
 use Rattle.plan_core.specs.declared.refusal.Refusal.{Refusal}
 use Rattle.plan_core.specs.declared.refusal.Refusal.TheVariants as refusal
 use Rattle.bd_top.specs.declared.replay.Stop.{Stop}
 use Rattle.bd_top.specs.declared.replay.Stop.TheVariants.{WriteFault, NoMemory}
 use Rattle.bd_top.specs.Taken.{Taken, IsSilent, Receives, ReceivesPart, HasFailed}
-use Rattle.bd_top.specs.Texts.{better_of, better_texts, reply_line, reply_texts}
+use Rattle.bd_top.specs.Texts.{entry_text, better_texts, reply_line, reply_texts}
 use Rattle.bd_top.specs.Replay.{IsTold, Makes, IsMade, IsUnmade, MakesOne, Puts, Follows, FollowsPart, FollowsSo, IsCause, betters_of}
 use Rattle.bd_top.proofs.TextLemmas.{better_texts-more, reply_texts-more}
 
@@ -37,6 +36,11 @@ told_of refusal.Split n = tt
 told_of (refusal.NotCheaper old new) n = tt
 told_of (refusal.TooLong steps) n = tt
 told_of (refusal.Unlinked fault) n = tt
+told_of refusal.Between n = tt
+told_of (refusal.TooDeep depth) n = tt
+told_of (refusal.NoGain old new) n = tt
+told_of refusal.Idle n = tt
+told_of (refusal.BadOrder i j) n = tt
 told_of refusal.NoMemory n = n refl
 
 pub puts_same : (p q : List ℕ) (s : Taken) (r : Result (Unit {0}) Stop) → p ≡ q → Puts p s r → Puts q s r
@@ -64,18 +68,18 @@ cause_notes piece out notes (Ok done) h = tt
 cause_notes piece out notes (Err WriteFault) h = inr h.failed
 cause_notes piece out notes (Err NoMemory) h = tt
 
--- the better text of an offer that was accepted comes last
+-- what an offer that was accepted puts comes last
 pub betters_more : (core last : CoreView) (offer : Offer) (place : ℕ) → IsLawful last → Replies core offer (Ok place) → last ≡ accepted offer core →
-    betters_of last ≡ betters_of core ++ better_of last.task place last.tree
-betters_more core last (Replace window list) place lawful r is =
-    subst (λ (z : CoreView). IsLawful z → betters_of z ≡ betters_of core ++ better_of z.task place z.tree) (sym is)
-    (λ law. better_texts-more core.task 0 (opened core.start) core.history (Replace window list) ∙ ap (λ z. betters_of core ++ z) (tail law.replays)) lawful
+    betters_of last ≡ betters_of core ++ entry_text last.task place offer last.tree
+betters_more core last offer place lawful r is =
+    subst (λ (z : CoreView). IsLawful z → betters_of z ≡ betters_of core ++ entry_text z.task place offer z.tree) (sym is)
+    (λ law. better_texts-more core.task 0 (opened core.start) core.history offer ∙ ap (λ z. betters_of core ++ z) (tail law.replays)) lawful
   where
-    tail : replay (opened core.start) (core.history ++ Replace window list ∷ []) ≡ state_of (accepted (Replace window list) core) →
-        better_texts core.task (0 + length core.history) (replay (opened core.start) core.history) (Replace window list ∷ []) ≡ better_of core.task place (accepted (Replace window list) core).tree
+    tail : replay (opened core.start) (core.history ++ offer ∷ []) ≡ state_of (accepted offer core) →
+        better_texts core.task (0 + length core.history) (replay (opened core.start) core.history) (offer ∷ []) ≡ entry_text core.task place offer (accepted offer core).tree
     tail replays = append-nil _
-        ∙ ap (λ (n : ℕ). better_of core.task n (applied (Replace window list) (replay (opened core.start) core.history)).tree) (let e : place ≡ length core.history + 1 = r.1 in omega (arith, e))
-        ∙ ap (λ (s : State). better_of core.task place s.tree) (sym (replay-append (opened core.start) core.history (Replace window list ∷ [])) ∙ replays)
+        ∙ ap (λ (n : ℕ). entry_text core.task n offer (applied offer (replay (opened core.start) core.history)).tree) (let e : place ≡ length core.history + 1 = r.1 in omega (arith, e))
+        ∙ ap (λ (s : State). entry_text core.task place offer s.tree) (sym (replay-append (opened core.start) core.history (offer ∷ [])) ∙ replays)
 
 pub same_betters : (core last : CoreView) → last ≡ core → betters_of last ≡ betters_of core
 same_betters core last e = ap betters_of e

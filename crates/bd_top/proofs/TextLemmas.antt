@@ -3,10 +3,9 @@ use Rattle.std.proofs.Common.{◌≡◌, ℕ, ◌+◌, List, [], ◌∷◌, ◌+
 use Rattle.bd_task.specs.TaskView.{TaskView}
 use Rattle.plan_core.specs.Core.{CoreView, State, applied, replay, opened, state_of, accepted}
 use Rattle.plan_core.specs.declared.offer.Offer.{Offer}
-use Rattle.plan_core.specs.declared.offer.Offer.TheVariants.{Replace}
 use Rattle.plan_core.specs.declared.refusal.Refusal.{Refusal}
 use Rattle.bd_top.specs.Replay.{betters_of}
-use Rattle.bd_top.specs.Texts.{shown, name_by, newline, plan_lines, better_of, better_texts, reply_line, reply_texts}
+use Rattle.bd_top.specs.Texts.{shown, name_by, newline, plan_lines, entry_text, better_texts, reply_line, reply_texts}
 
 pub plan_lines-append : (task : TaskView) (xs ys : List ℕ) → plan_lines task (xs ++ ys) ≡ plan_lines task xs ++ plan_lines task ys
 plan_lines-append task [] ys = refl
@@ -18,12 +17,12 @@ plan_lines-append task (x ∷ xs) ys =
 pub better_texts-more : (task : TaskView) (place : ℕ) (state : State) (xs : List Offer) (x : Offer) →
     better_texts task place state (xs ++ x ∷ []) ≡ better_texts task place state xs ++ better_texts task (place + length xs) (replay state xs) (x ∷ [])
 better_texts-more task place state [] x = rw (add-zero place) refl
-better_texts-more task place state (Replace window list ∷ xs) x =
-    let next = applied (Replace window list) state in
-    let front = better_of task (place + 1) next.tree in
-    let count : place + 1 + length xs ≡ place + length (Replace window list ∷ xs) = omega arith in
+better_texts-more task place state (offer ∷ xs) x =
+    let next = applied offer state in
+    let front = entry_text task (place + 1) offer next.tree in
+    let count : place + 1 + length xs ≡ place + length (offer ∷ xs) = omega arith in
     ap (λ z. front ++ z) (better_texts-more task (place + 1) next xs x ∙ ap (λ n. better_texts task (place + 1) next xs ++ better_texts task n (replay next xs) (x ∷ [])) count)
-    ∙ sym (append_assoc front (better_texts task (place + 1) next xs) (better_texts task (place + length (Replace window list ∷ xs)) (replay next xs) (x ∷ [])))
+    ∙ sym (append_assoc front (better_texts task (place + 1) next xs) (better_texts task (place + length (offer ∷ xs)) (replay next xs) (x ∷ [])))
 
 -- one more reply
 pub reply_texts-more : (task : TaskView) (number : ℕ) (xs : List (Result ℕ Refusal)) (x : Result ℕ Refusal) →

@@ -1,18 +1,23 @@
 -- What the words and the texts that they name lead to: a script that is ready to run, or a refusal with its line.
-use Rattle.std.specs.Prelude.{◌≡◌, ℕ, ◌<◌, ◌≤◌, Bool, true, false, All, List, length, Some, None, Err}
+use Rattle.std.specs.Prelude.{◌≡◌, ◌⊎◌, ℕ, ◌<◌, ◌≤◌, Bool, true, false, All, List, length, Some, None, Err, unwrap_or}
 use Rattle.bd_base.specs.Causes.{Rose}
 use Rattle.bd_base.specs.Shelf.{Told, untold, absent, text}
 use Rattle.bd_base.specs.declared.text_err.Cause.{Cause}
+use Rattle.bd_base.specs.declared.text_err.Cause.TheVariants as causes
 use Rattle.bd_base.specs.declared.text_err.Limit.{Limit}
 use Rattle.bd_base.specs.declared.text_err.Limit.TheVariants as limit
 use Rattle.bd_task.specs.TaskView.{TaskView}
 use Rattle.bd_task.specs.Valid.{IsValid, Break, step_lacks, goal_lacks, first_break}
+use Rattle.bd_tree.specs.declared.node.Node.{Node}
+use Rattle.bd_tree.specs.Chain.{chain_of}
+use Rattle.bd_links.specs.Sound.{IsSound}
 use Rattle.plan_core.specs.Replies.{IsLent}
 use Rattle.seq_check.specs.declared.judging.Broken.{Broken}
 use Rattle.seq_check.specs.declared.judging.Broken.TheVariants as broken
 use Rattle.script_text.specs.declared.script.Script.{Script}
 use Rattle.script_text.specs.Lines.{worded}
-use Rattle.script_text.specs.Reading.{script_at}
+use Rattle.script_text.specs.Range.{StartsBy}
+use Rattle.script_text.specs.Whole.{script_at}
 use Rattle.script_text.specs.Spells.{SpellsScript}
 use Rattle.script_text.specs.Limits.{over_of}
 use Rattle.bd_top.specs.declared.usage.TheConstants.{USAGE}
@@ -24,11 +29,16 @@ use Rattle.bd_top.specs.declared.status.Status.TheVariants as status
 use Rattle.bd_top.specs.Texts.{invalid_line, refused_line, over_line, unread_line}
 use Rattle.bd_top.specs.Words.{script_named}
 
--- what a reader promises of a script: the plan's actions are the task's, there are few of them, the core may close, and there are few
--- offers with few actions each
+-- the tree that a script starts from: its own, where it has one, else the chain of its plan
+abbrev pub start_of : Script → Node
+start_of script = unwrap_or script.start (chain_of script.plan)
+
+-- what a reader promises of a script: the plan's actions are the task's, there are few of them, a core may open on the start tree,
+-- which lists the plan, the core may close, and there are few offers with few actions each
 pub record IsBounded (script : Script) : Type 0 where
   pub in_range : All (λ a. a < length script.task.actions) script.plan
   pub few : length script.plan ≤ 2_000
+  pub starts : StartsBy (length script.task.actions) 16_777_216 script.plan script.start
   pub stops : (0 < script.stop) × (script.stop ≤ 1_000_000)
   pub few_offers : length script.offers ≤ 1_000_000
   pub lent : All IsLent script.offers
@@ -37,8 +47,9 @@ pub record IsBounded (script : Script) : Type 0 where
 pub record IsRunnable (script : Script) : Type 0 where
   pub bounded : IsBounded script
   pub valid : IsValid script.task script.plan
+  pub sound : IsSound script.task (start_of script)
 
--- the text spells a script within the limits, whose plan is valid
+-- the text spells a script within the limits, whose plan is valid and whose start tree is sound
 pub record IsReadyText (t : List ℕ) (script : Script) : Type 0 where
   pub spelled : SpellsScript t script
   pub within : over_of script ≡ None
@@ -66,11 +77,32 @@ pub record IsNoScript (t : List ℕ) (place : ℕ) (cause : Cause) (line : List 
   pub first : script_at (worded t) ≡ Err (place, cause)
   pub noted : line ≡ refused_line file.Script place cause
 
+-- the script has a start tree of its own, which isn't sound
+pub record HasUnsoundStart (script : Script) : Type 0 where
+  pub root : Node
+  pub starts : script.start ≡ Some root
+  pub unsound : IsSound script.task root → ⊥
+
+-- the plan is valid, but the script's start tree isn't sound, which is told at its line
+pub record FailsAtStart (script : Script) (place : ℕ) (cause : Cause) : Type 0 where
+  pub valid : IsValid script.task script.plan
+  pub start : HasUnsoundStart script
+  pub told : cause ≡ causes.Unsound
+  pub at : place ≡ script.start_line
+
+-- the text spells a script within the limits, which fails at its start tree
+pub record IsUnsoundStart (t : List ℕ) (place : ℕ) (cause : Cause) (line : List ℕ) : Type 0 where
+  pub script : Script
+  pub spelled : SpellsScript t script
+  pub within : over_of script ≡ None
+  pub fails : FailsAtStart script place cause
+  pub noted : line ≡ refused_line file.Script place cause
+
 -- why a text is refused, and the line that says so
 abbrev pub IsTextRefusal : List ℕ → Status → List ℕ → Type 0
 IsTextRefusal t (status.PlanInvalid (broken.Step at f)) line = IsBroken t (step_lacks at f) line
 IsTextRefusal t (status.PlanInvalid (broken.Goal f)) line = IsBroken t (goal_lacks f) line
-IsTextRefusal t (status.TextRefused file.Script place cause) line = IsNoScript t place cause line
+IsTextRefusal t (status.TextRefused file.Script place cause) line = IsNoScript t place cause line ⊎ IsUnsoundStart t place cause line
 IsTextRefusal t (status.OverLimit l count) line = IsOver t l count line
 IsTextRefusal t other line = ⊥
 
@@ -91,6 +123,11 @@ abbrev pub IsBrokenLine : TaskView → Broken → List ℕ → Type 0
 IsBrokenLine task (broken.Step at f) line = line ≡ invalid_line task (step_lacks at f)
 IsBrokenLine task (broken.Goal f) line = line ≡ invalid_line task (goal_lacks f)
 IsBrokenLine task broken.NoMemory line = ⊥
+
+-- whether the tree that the script starts from is sound
+abbrev pub JudgesStart : Script → Bool → Type 0
+JudgesStart script true = IsSound script.task (start_of script)
+JudgesStart script false = HasUnsoundStart script
 
 -- the text that was read is the one that is told, where one is
 abbrev pub IsToldAs : Told → List ℕ → Type 0
@@ -153,6 +190,7 @@ PreparesScript script (prepared.Refused (status.PlanInvalid (broken.Step at f)) 
     IsFirstBreak script (broken.Step at f) × (line ≡ invalid_line script.task (step_lacks at f))
 PreparesScript script (prepared.Refused (status.PlanInvalid (broken.Goal f)) line) =
     IsFirstBreak script (broken.Goal f) × (line ≡ invalid_line script.task (goal_lacks f))
+PreparesScript script (prepared.Refused (status.TextRefused file.Script place cause) line) = FailsAtStart script place cause × (line ≡ refused_line file.Script place cause)
 PreparesScript script (prepared.Refused other line) = ⊥
 PreparesScript script prepared.NoMemory = Unit {0}
 

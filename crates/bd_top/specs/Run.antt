@@ -3,7 +3,8 @@ use Rattle.std.specs.Prelude.{◌≡◌, ◌⊎◌, ℕ, ◌≤◌, ◌==◌, if
 use Rattle.bd_base.specs.Causes.{Rose}
 use Rattle.bd_base.specs.Shelf.{Told, text}
 use Rattle.bd_task.specs.Valid.{IsValid}
-use Rattle.bd_tree.specs.Chain.{chain_of}
+use Rattle.bd_tree.specs.declared.node.Node.{Node}
+use Rattle.bd_links.specs.Sound.{IsSound}
 use Rattle.plan_core.specs.Core.{CoreView, opening}
 use Rattle.plan_core.specs.Law.{OpensOn, IsLawful}
 use Rattle.plan_core.specs.declared.offer.Offer.{Offer}
@@ -18,7 +19,7 @@ use Rattle.bd_top.specs.declared.status.Status.{Status}
 use Rattle.bd_top.specs.declared.status.Status.TheVariants as status
 use Rattle.bd_top.specs.declared.replay.Stop.{Stop}
 use Rattle.bd_top.specs.declared.replay.Stop.TheVariants as stop
-use Rattle.bd_top.specs.Prepared.{Counts, IsReady, IsRefusal}
+use Rattle.bd_top.specs.Prepared.{Counts, IsReady, IsRefusal, start_of}
 use Rattle.bd_top.specs.Replay.{Makes}
 use Rattle.bd_top.specs.Taken.{Taken, IsSilent, Receives, ReceivesPart, HasFailed, IsCut}
 use Rattle.bd_top.specs.Texts.{summary_of, printed_of, noted_of}
@@ -48,11 +49,11 @@ pub record IsRunOf (core : CoreView) (offers : List Offer) (run : RunRecord) : T
   pub made : Makes core offers run.replies last
   pub lawful : IsLawful last
 
--- the core that opens on the chain of a script's plan
+-- the core that opens on the tree that a script starts from
 abbrev pub opening_of : Script → CoreView
-opening_of script = opening script.task (chain_of script.plan) script.stop
+opening_of script = opening script.task (start_of script) script.stop
 
--- the words and the texts lead to a script with a valid plan, and this is its run
+-- the words and the texts lead to a script with a valid plan and a sound start tree, and this is its run
 pub record IsRecorded (words : List (List ℕ)) (tells : List ℕ → Told) (run : RunRecord) : Type 0 where
   pub script : Script
   pub ready : IsReady words tells script
@@ -122,7 +123,8 @@ Finishes (Err stop.WriteFault) run out status.WriteFault ended = (ended ≡ Some
 Finishes (Err stop.NoMemory) run out status.NoMemory ended = (ended ≡ Some run) × IsSilent out
 Finishes made run out other ended = ⊥
 
--- the words name a script whose text is told: it has at most 16 MiB and spells a script within the limits, whose plan is valid
+-- the words name a script whose text is told: it has at most 16 MiB and spells a script within the limits, whose plan is valid and
+-- whose start tree, where it has one, is sound
 pub record IsGood (words : List (List ℕ)) (tells : List ℕ → Told) (script : Script) : Type 0 where
   pub name : List ℕ
   pub named : script_named words ≡ Some name
@@ -132,6 +134,7 @@ pub record IsGood (words : List (List ℕ)) (tells : List ℕ → Told) (script 
   pub spelled : SpellsScript read script
   pub within : over_of script ≡ None
   pub valid : IsValid script.task script.plan
+  pub starts : (root : Node) → script.start ≡ Some root → IsSound script.task root
 
 -- the count of faults didn't rise
 abbrev pub IsFaultless : ℕ → ℕ → Type 0

@@ -12,9 +12,9 @@ use Rattle.bd_task.specs.declared.ground.Action.{Action}
 use Rattle.bd_task.specs.Valid.{cost_of, Break, step_lacks, goal_lacks}
 use Rattle.bd_tree.specs.declared.node.Node.{Node}
 use Rattle.bd_tree.specs.Tree.{listed_of}
-use Rattle.plan_core.specs.Core.{State, opened, applied, is_replacement}
+use Rattle.plan_core.specs.Core.{State, opened, applied, is_rebuild, is_replacement, is_tightening}
 use Rattle.plan_core.specs.declared.offer.Offer.{Offer}
-use Rattle.plan_core.specs.declared.offer.Offer.TheVariants.{Replace}
+use Rattle.plan_core.specs.declared.offer.Offer.TheVariants.{Replace, Tighten, Rebuild}
 use Rattle.plan_core.specs.declared.refusal.Refusal.{Refusal}
 use Rattle.plan_core.specs.declared.refusal.Refusal.TheVariants as refusal
 use Rattle.bd_top.specs.declared.record.End.{End}
@@ -43,8 +43,8 @@ summary_of run =
     counted (codes "; start ") (cost_of run.task (listed_of run.start))
     ++ counted (codes "; final ") (cost_of run.task (listed_of run.tree))
     ++ counted (codes "; replacements ") (count_by is_replacement run.history)
-    ++ counted (codes "; tightenings ") 0
-    ++ counted (codes "; rebuilds ") 0
+    ++ counted (codes "; tightenings ") (count_by is_tightening run.history)
+    ++ counted (codes "; rebuilds ") (count_by is_rebuild run.history)
     ++ end_line run.end
 
 -- what a run's end closes with: the summary, where it has an end
@@ -72,11 +72,16 @@ plan_lines task (a ∷ list) = shown (name_by (slice_get task.actions a)) ++ new
 abbrev pub better_of : TaskView → ℕ → Node → List ℕ
 better_of task place tree = counted (codes "; place ") place ++ plan_lines task (listed_of tree) ++ counted (codes "; cost = ") (cost_of task (listed_of tree))
 
--- the better texts of the replacements of a history, which follows so many entries and the state that they led to
+-- what an entry puts, which led to the tree at the place: a replacement its plan, and the others nothing
+abbrev pub entry_text : TaskView → ℕ → Offer → Node → List ℕ
+entry_text task place (Replace window list) tree = better_of task place tree
+entry_text task place (Tighten block left right) tree = []
+entry_text task place (Rebuild order) tree = []
+
+-- the better texts of a history, which follows so many entries and the state that they led to; each entry counts as a place
 abbrev pub better_texts : TaskView → ℕ → State → List Offer → List ℕ
 better_texts task place state [] = []
-better_texts task place state (Replace window list ∷ rest) =
-    better_of task (place + 1) (applied (Replace window list) state).tree ++ better_texts task (place + 1) (applied (Replace window list) state) rest
+better_texts task place state (offer ∷ rest) = entry_text task (place + 1) offer (applied offer state).tree ++ better_texts task (place + 1) (applied offer state) rest
 
 -- why a tree isn't sound
 abbrev pub fault_text : TaskView → Fault → List ℕ
@@ -93,6 +98,11 @@ refusal_text task refusal.Split = codes "4 Split"
 refusal_text task (refusal.NotCheaper old new) = codes "5 NotCheaper " ++ decimal old ++ codes " " ++ decimal new
 refusal_text task (refusal.TooLong steps) = codes "6 TooLong " ++ decimal steps
 refusal_text task (refusal.Unlinked f) = codes "7 Unlinked " ++ fault_text task f
+refusal_text task refusal.Between = codes "8 Between"
+refusal_text task (refusal.TooDeep depth) = codes "9 TooDeep " ++ decimal depth
+refusal_text task (refusal.NoGain old new) = codes "10 NoGain " ++ decimal old ++ codes " " ++ decimal new
+refusal_text task refusal.Idle = codes "11 Idle"
+refusal_text task (refusal.BadOrder i j) = codes "12 BadOrder " ++ decimal i ++ codes " " ++ decimal j
 refusal_text task refusal.NoMemory = []
 
 -- why the offer with this number, from 1, is refused
@@ -138,7 +148,6 @@ cause_text cause.NoAction = codes "NoAction"
 cause_text cause.NoCost = codes "NoCost"
 cause_text cause.Misfit = codes "Misfit"
 cause_text cause.Unsound = codes "Unsound"
-cause_text cause.Later = codes "Later"
 
 abbrev pub file_text : File → List ℕ
 file_text file.Domain = codes "domain"

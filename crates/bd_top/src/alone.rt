@@ -1,8 +1,8 @@
-ghost use Rattle.std.specs.Prelude.{◌≡◌, ℕ, ◌<◌, ◌≤◌, List, [], All, IfOk, map, string_bytes, length, vec_capacity};
-ghost use Rattle.bd_task.specs.Valid.{IsValid};
+ghost use Rattle.std.specs.Prelude.{◌≡◌, ℕ, ◌<◌, ◌≤◌, List, [], All, IfOk, map, string_bytes, length, unwrap_or, vec_capacity};
+ghost use Rattle.bd_links.specs.Sound.{IsSound};
 ghost use Rattle.bd_tree.specs.Chain.{chain_of};
 ghost use Rattle.plan_core.specs.Core.{opening};
-ghost use Rattle.plan_core.specs.Law.{IsLawful, IsPrintable};
+ghost use Rattle.plan_core.specs.Law.{IsLawful, IsPrintable, MayBegin};
 ghost use Rattle.plan_core.specs.Replies.{IsLent};
 ghost use Rattle.script_text.specs.declared.script.Script.{Script};
 ghost use Rattle.bd_top.specs.Prepared.{IsRunnable};
@@ -20,18 +20,27 @@ use plan_core::{BeginErr, Core, Offer};
 use script_text::Script;
 use std::alloc::Global;
 
-// A core that opens on the chain of a script's plan.
-fn opened(alloc: Global, task: Task, plan: &[ActionId], stop: u32) -> Result<Core, NoMemory>
-    requires valid { IsValid task plan.now }
-    requires in_range { All (λ a. a < length task.actions) plan.now }
-    requires few { length plan.now ≤ 2_000 }
-    requires stops { (0 < stop) × (stop ≤ 1_000_000) }
-    ensures { IfOk result (λ core. core ≡ opening task (chain_of plan.now) stop) }
+// The tree that a script with this plan starts from.
+fn start_tree(alloc: Global, start: Option<Tree>, plan: &[ActionId]) -> Result<Tree, NoMemory>
+    requires { length plan.now ≤ 2_000 }
+    ensures { IfOk result (λ tree. tree ≡ unwrap_or start (chain_of plan.now)) }
 {
-    let start = Tree::chain(alloc, plan)?;
+    match start {
+        Some(tree) => Ok(tree),
+        None => Tree::chain(alloc, plan),
+    }
+}
+
+// A core that opens on a sound tree.
+fn opened(alloc: Global, task: Task, start: Tree, stop: u32) -> Result<Core, NoMemory>
+    requires may { MayBegin task start }
+    requires sound { IsSound task start }
+    requires stops { (0 < stop) × (stop ≤ 1_000_000) }
+    ensures { IfOk result (λ core. core ≡ opening task start stop) }
+{
     match Core::begin(alloc, task, start, stop) {
         Ok(core) => Ok(core),
-        // The chain of a valid plan is sound.
+        // The tree is sound.
         Err(BeginErr::Unsound(_)) => {
             prove!(false);
             Err(NoMemory)
@@ -123,7 +132,26 @@ fn replayed<S: Sink, E: Sink>(
     finished(alloc, made, run, out)
 }
 
-// The run of a script whose plan is valid. The room for all replies is taken before the first offer.
+// The core that a script opens.
+fn begun(
+    alloc: Global,
+    task: Task,
+    start: Option<Tree>,
+    plan: &[ActionId],
+    stop: u32,
+) -> Result<Core, NoMemory>
+    requires few { length plan.now ≤ 2_000 }
+    requires may { MayBegin task (unwrap_or start (chain_of plan.now)) }
+    requires sound { IsSound task (unwrap_or start (chain_of plan.now)) }
+    requires stops { (0 < stop) × (stop ≤ 1_000_000) }
+    ensures { IfOk result (λ core. core ≡ opening task (unwrap_or start (chain_of plan.now)) stop) }
+{
+    let tree = start_tree(alloc, start, plan)?;
+    opened(alloc, task, tree, stop)
+}
+
+// The run of a script whose plan is valid and whose start tree is sound. The room for all replies is taken before the first
+// offer.
 fn run_script<S: Sink, E: Sink>(alloc: Global, script: Script, out: &mut S, notes: &mut E) -> Ended
     requires { IsRunnable script }
     ensures { Replays (opening_of script) script.offers
@@ -134,13 +162,13 @@ fn run_script<S: Sink, E: Sink>(alloc: Global, script: Script, out: &mut S, note
     let Script {
         task,
         plan,
-        start: _,
+        start,
         start_line: _,
         stop,
         offers,
     } = script;
     let offers = offers.as_slice();
-    let core = opened(alloc, task, plan.as_slice(), stop);
+    let core = begun(alloc, task, start, plan.as_slice(), stop);
     let replies = Vec::with_capacity(alloc, offers.len());
     match (core, replies) {
         (Ok(core), Ok(replies)) => replayed(alloc, core, offers, replies, out, notes),

@@ -25,4 +25,8 @@ pub use summary::summary_text;
 pub use usage::USAGE;
 
 #[cfg(test)]
+mod runs;
+#[cfg(test)]
+mod start_tests;
+#[cfg(test)]
 mod tests;

@@ -85,7 +85,6 @@ fn push_cause(text: &mut Vec<u8>, cause: &Cause) -> Result<(), NoMemory>
         Cause::NoCost => text.extend_from_slice(b"NoCost")?,
         Cause::Misfit => text.extend_from_slice(b"Misfit")?,
         Cause::Unsound => text.extend_from_slice(b"Unsound")?,
-        Cause::Later => text.extend_from_slice(b"Later")?,
     }
     Ok(())
 }

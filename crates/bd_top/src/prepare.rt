@@ -1,16 +1,17 @@
 ghost use Rattle.std.specs.Prelude.{◌≡◌, ℕ, ◌<◌, ◌≤◌, ◌^◌, List, Err, IfOk, IfErr, All, length, MatchResult, map, string_bytes};
 ghost use Rattle.bd_base.specs.Shelf.{Told};
 ghost use Rattle.bd_task.specs.Valid.{IsValid};
-ghost use Rattle.bd_top.specs.Prepared.{Prepares, PreparesNamed, PreparesText, PreparesScript, HasFact, IsBounded, IsFirstBreak, Counts, IsUnread};
+ghost use Rattle.bd_top.specs.Prepared.{Prepares, PreparesNamed, PreparesText, PreparesScript, HasFact, HasUnsoundStart, IsBounded, IsFirstBreak, JudgesStart, Counts, IsUnread};
 ghost use Rattle.script_text.specs.Limits.{Spelled, Answers};
 ghost use Rattle.script_text.specs.Lines.{worded};
-ghost use Rattle.script_text.specs.Reading.{script_at};
+ghost use Rattle.script_text.specs.Whole.{script_at};
 ghost use Rattle.bd_top.specs.declared.prepare.Prepared.TheVariants.{Refused as Refusal, NoMemory as OutOfMemory};
 
 use crate::notes::{broken_note, over_note, refused_note, unread_note};
 use crate::status::{File, Status};
 use crate::usage::{script_name, usage_note};
-use bd_base::{Limit, NoMemory, Shelf, ShelfErr, Text, TextErr};
+use bd_base::{Cause, Limit, NoMemory, Shelf, ShelfErr, Text, TextErr};
+use bd_links::check;
 use script_text::{Script, read_script};
 use seq_check::{Broken, validate};
 use std::alloc::Global;
@@ -21,7 +22,7 @@ const TEXT_LIMIT: usize = 16_777_216;
 /// What the words and the texts that they name lead to.
 #[derive(Debug, Drop)]
 pub enum Prepared {
-    /// A script whose plan is valid.
+    /// A script whose plan is valid and whose start tree is sound.
     Ready(Script),
     /// A refusal, and the line that names it.
     Refused { status: Status, line: Text },
@@ -59,12 +60,53 @@ fn broken_plan(alloc: Global, script: &Script, broken: Broken) -> Prepared
     refused(Status::PlanInvalid(broken), line)
 }
 
+// Whether the tree that the script starts from is sound. The chain of a valid plan is.
+fn starts_sound(alloc: Global, script: &Script) -> Result<bool, NoMemory>
+    requires bounded { IsBounded script.now }
+    requires valid { IsValid script.now.task script.now.plan }
+    ensures { IfOk result (λ sound. JudgesStart script.now sound) }
+{
+    match &script.start {
+        None => Ok(true),
+        Some(tree) => match check(alloc, &script.task, tree)? {
+            None => Ok(true),
+            Some(_) => Ok(false),
+        },
+    }
+}
+
+// The refusal of a script whose start tree isn't sound.
+fn unsound_start(alloc: Global, script: &Script) -> Prepared
+    requires valid { IsValid script.now.task script.now.plan }
+    requires start { HasUnsoundStart script.now }
+    ensures { PreparesScript script.now result }
+{
+    let file = File::Script;
+    let place = script.start_line;
+    let cause = Cause::Unsound;
+    let line = refused_note(alloc, file, place, &cause);
+    refused(Status::TextRefused { file, place, cause }, line)
+}
+
+// What a script whose plan is valid leads to.
+fn prepare_valid(alloc: Global, script: Script) -> Prepared
+    requires bounded { IsBounded script }
+    requires valid { IsValid script.task script.plan }
+    ensures { PreparesScript script result }
+{
+    match starts_sound(alloc, &script) {
+        Ok(true) => Prepared::Ready(script),
+        Ok(false) => unsound_start(alloc, &script),
+        Err(_) => Prepared::NoMemory,
+    }
+}
+
 fn prepare_script(alloc: Global, script: Script) -> Prepared
     requires { IsBounded script }
     ensures { PreparesScript script result }
 {
     match judged(alloc, &script) {
-        Ok(_) => Prepared::Ready(script),
+        Ok(_) => prepare_valid(alloc, script),
         Err(broken) => broken_plan(alloc, &script, broken),
     }
 }

@@ -2,7 +2,7 @@ ghost use Rattle.std.specs.Prelude.{◌≡◌, ◌<◌, ◌≤◌, ◌++◌, ◌
 ghost use Rattle.plan_core.specs.Law.{IsLawful};
 ghost use Rattle.plan_core.specs.Replies.{IsLent, TellsFact};
 ghost use Rattle.bd_top.specs.Replay.{Makes, MakesOne, Puts, FollowsSo, IsCause, betters_of};
-ghost use Rattle.bd_top.specs.Texts.{better_of, reply_line, reply_texts};
+ghost use Rattle.bd_top.specs.Texts.{entry_text, reply_line, reply_texts};
 
 use crate::better::better_text;
 use crate::record::Reply;
@@ -35,13 +35,25 @@ pub fn put_text<S: Sink>(sink: &mut S, text: Result<Text, NoMemory>) -> Result<(
     }
 }
 
-// Puts the plan of the core's tree, which is better than the one before.
-fn put_better<S: Sink>(alloc: Global, core: &Core, place: u64, out: &mut S) -> Result<(), Stop>
+// Puts what the offer puts that the core has just taken: a replacement the plan of the core's tree, which is better than
+// the one before.
+fn put_entry<S: Sink>(
+    alloc: Global,
+    core: &Core,
+    offer: &Offer,
+    place: u64,
+    out: &mut S,
+) -> Result<(), Stop>
     ensures lawful { IsLawful core.now }
-    ensures put { Puts (better_of core.now.task place core.now.tree) (record { before = S.told out.old; after = S.told out.new; faults = S.faults out.old; faults_after = S.faults out.new }) result }
+    ensures put { Puts (entry_text core.now.task place offer.now core.now.tree) (record { before = S.told out.old; after = S.told out.new; faults = S.faults out.old; faults_after = S.faults out.new }) result }
     ensures later { S.faults out.old ≤ S.faults out.new }
 {
-    put_text(out, better_text(alloc, core.task(), place, core.tree()))
+    let tree = core.tree();
+    match offer {
+        Offer::Replace { .. } => put_text(out, better_text(alloc, core.task(), place, tree)),
+        Offer::Tighten { .. } => Ok(()),
+        Offer::Rebuild { .. } => Ok(()),
+    }
 }
 
 // Puts why the offer with this number is refused.
@@ -96,7 +108,7 @@ fn make_offer<S: Sink, E: Sink>(
     match core.offer(alloc, offer) {
         Ok(place) => {
             push_within(replies, Ok(place));
-            put_better(alloc, core, place, out)
+            put_entry(alloc, core, offer, place, out)
         }
         Err(why) => match why {
             Refusal::NoMemory => Err(Stop::NoMemory),

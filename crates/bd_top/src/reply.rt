@@ -10,12 +10,26 @@ use bd_task::Task;
 use plan_core::Refusal;
 use std::alloc::Global;
 
+fn push_title(text: &mut Vec<u8>, title: &[u8]) -> Result<(), NoMemory>
+    ensures { OnOk result (text.new.items ≡ text.old.items ++ title.now) }
+{
+    text.extend_from_slice(title)?;
+    Ok(())
+}
+
+// A title and a number.
+fn push_one(text: &mut Vec<u8>, title: &[u8], number: u64) -> Result<(), NoMemory>
+    ensures { OnOk result (text.new.items ≡ text.old.items ++ title.now ++ decimal number) }
+{
+    text.extend_from_slice(title)?;
+    push_number(text, number)
+}
+
 // A title and two numbers.
 fn push_two(text: &mut Vec<u8>, title: &[u8], first: u64, second: u64) -> Result<(), NoMemory>
     ensures { OnOk result (text.new.items ≡ text.old.items ++ title.now ++ decimal first ++ codes " " ++ decimal second) }
 {
-    text.extend_from_slice(title)?;
-    push_number(text, first)?;
+    push_one(text, title, first)?;
     text.extend_from_slice(b" ")?;
     push_number(text, second)
 }
@@ -47,29 +61,25 @@ fn push_refusal(text: &mut Vec<u8>, task: &Task, why: &Refusal) -> Result<(), No
     ensures { OnOk result (text.new.items ≡ text.old.items ++ refusal_text task.now why.now) }
 {
     match why {
-        Refusal::Closed { replaced, entries } => {
-            return push_two(text, b"1 Closed ", *replaced, *entries);
-        }
-        Refusal::NoAction { number } => {
-            text.extend_from_slice(b"2 NoAction ")?;
-            push_number(text, u64::from(*number))?;
-        }
-        Refusal::Gone => text.extend_from_slice(b"3 Gone")?,
-        Refusal::Split => text.extend_from_slice(b"4 Split")?,
-        Refusal::NotCheaper { old, new } => {
-            return push_two(text, b"5 NotCheaper ", *old, *new);
-        }
-        Refusal::TooLong { steps } => {
-            text.extend_from_slice(b"6 TooLong ")?;
-            push_number(text, *steps)?;
-        }
+        Refusal::Closed { replaced, entries } => push_two(text, b"1 Closed ", *replaced, *entries),
+        Refusal::NoAction { number } => push_one(text, b"2 NoAction ", u64::from(*number)),
+        Refusal::Gone => push_title(text, b"3 Gone"),
+        Refusal::Split => push_title(text, b"4 Split"),
+        Refusal::NotCheaper { old, new } => push_two(text, b"5 NotCheaper ", *old, *new),
+        Refusal::TooLong { steps } => push_one(text, b"6 TooLong ", *steps),
         Refusal::Unlinked(fault) => {
-            text.extend_from_slice(b"7 Unlinked ")?;
-            push_fault(text, task, fault)?;
+            push_title(text, b"7 Unlinked ")?;
+            push_fault(text, task, fault)
         }
-        Refusal::NoMemory => {}
+        Refusal::Between => push_title(text, b"8 Between"),
+        Refusal::TooDeep { depth } => push_one(text, b"9 TooDeep ", *depth),
+        Refusal::NoGain { old, new } => push_two(text, b"10 NoGain ", *old, *new),
+        Refusal::Idle => push_title(text, b"11 Idle"),
+        Refusal::BadOrder { i, j } => {
+            push_two(text, b"12 BadOrder ", u64::from(*i), u64::from(*j))
+        }
+        Refusal::NoMemory => Ok(()),
     }
-    Ok(())
 }
 
 /// The line that says why the offer with this number, from 1, is refused. Want of memory has none.

@@ -6,7 +6,7 @@ use crate::record::{End, RunRecord};
 use crate::writing::push_counted;
 use bd_base::{FromItems, Items, NoMemory, Text};
 use bd_links::node_cost;
-use plan_core::replacements;
+use plan_core::{rebuilds, replacements, tightenings};
 use std::alloc::Global;
 
 fn push_end(text: &mut Vec<u8>, end: Option<End>) -> Result<(), NoMemory>
@@ -42,8 +42,16 @@ pub fn summary_text(alloc: Global, run: &RunRecord) -> Result<Text, NoMemory>
         b"; replacements ",
         replacements(run.history.as_slice()) as u64,
     )?;
-    push_counted(&mut text, b"; tightenings ", 0)?;
-    push_counted(&mut text, b"; rebuilds ", 0)?;
+    push_counted(
+        &mut text,
+        b"; tightenings ",
+        tightenings(run.history.as_slice()) as u64,
+    )?;
+    push_counted(
+        &mut text,
+        b"; rebuilds ",
+        rebuilds(run.history.as_slice()) as u64,
+    )?;
     push_end(&mut text, run.end)?;
     Ok(Items::of(text))
 }

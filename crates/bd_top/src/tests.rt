@@ -1,17 +1,15 @@
 ghost use Rattle.std.specs.Prelude.{◌≡◌, length};
 
+use crate::runs::{
+    Fails, Written, leads_to, letters, limit_passed, many_lines, repeated, run, run_failing,
+};
 use crate::writing::push_number;
-use crate::{End, USAGE, reply_text, run_alone};
-use bd_base::{FactSet, Limit, MemShelf, MemSink, NoMemory, Text, TextErr};
+use crate::{USAGE, reply_text};
+use bd_base::{FactSet, Limit, NoMemory};
 use bd_task::Task;
 use plan_core::Refusal;
-use script_text::read_script;
-use std::alloc::{AllocError, Global};
+use std::alloc::Global;
 use std::test::Fail;
-
-// Nine actions over five letters, and what stands behind them is left out.
-const LETTERS: &str =
-    "bdpo-script 1\nfact (a)\nfact (b)\nfact (c)\nfact (x)\nfact (y)\naction (ab) 3 pre (a) add (b) del (a)\naction (ba) 3 pre (b) add (a) del (b)\naction (ac) 2 pre (a) add (c) del (a)\naction (ca) 2 pre (c) add (a) del (c)\naction (bc) 1 pre (b) add (c) del (b)\naction (get1) 1 pre (b) add (x) del\naction (get2) 1 pre (c) add (y) del\naction (pip) 0 pre add del\naction (flip) 1 pre add (a) del (a)\ninit (a)\n";
 
 // A plan of five steps, behind the letters.
 const PLAN: &str = "goal (x) (y)\nplan (ab) (get1) (ba) (ac) (get2)\n";
@@ -24,89 +22,6 @@ const DIRECT_OUT: &str =
 
 const NO_BETTER: &str =
     "; start 10\n; final 10\n; replacements 0\n; tightenings 0\n; rebuilds 0\n; end script\n";
-
-// What a run came to.
-#[derive(Drop)]
-struct Written {
-    status: i32,
-    out: Vec<u8>,
-    notes: Vec<u8>,
-    ended: bool,
-    entries: usize,
-    replies: usize,
-}
-
-// Which calls of the outside fail, counted from 1, and after how many bytes a put fails.
-#[derive(Clone, Copy)]
-struct Fails<'a> {
-    reads: &'a [u64],
-    outs: &'a [(u64, usize)],
-    notes: &'a [(u64, usize)],
-}
-
-fn strings(alloc: Global, words: &[&str]) -> Result<Vec<String>, AllocError> {
-    let mut strings = Vec::new(alloc);
-    for word in words {
-        strings.push(String::from_str(alloc, word)?)?;
-    }
-    Ok(strings)
-}
-
-// The letters, and these lines behind them.
-fn letters(alloc: Global, lines: &str) -> Result<Vec<u8>, AllocError> {
-    let mut text = Vec::from_slice(alloc, LETTERS.as_bytes())?;
-    text.extend_from_slice(lines.as_bytes())?;
-    Ok(text)
-}
-
-// Runs these words over a shelf that has this text under the name `s`.
-fn run_failing(
-    alloc: Global,
-    words: &[&str],
-    text: &[u8],
-    fails: &Fails<'_>,
-) -> Result<Written, NoMemory> {
-    let words = strings(alloc, words)?;
-    let names = vec![in alloc; Text::from_slice(alloc, b"s")?]?;
-    let texts = vec![in alloc; Text::from_slice(alloc, text)?]?;
-    let mut shelf = MemShelf::new(names, texts, Vec::from_slice(alloc, fails.reads)?);
-    let mut out = MemSink::new(alloc, 65536, Vec::from_slice(alloc, fails.outs)?)?;
-    let mut notes = MemSink::new(alloc, 65536, Vec::from_slice(alloc, fails.notes)?)?;
-    let ended = run_alone(alloc, &words, &mut shelf, &mut out, &mut notes);
-    let (entries, replies) = match &ended.run {
-        Some(run) => (run.history.as_slice().len(), run.replies.as_slice().len()),
-        None => (9, 9),
-    };
-    Ok(Written {
-        status: ended.status.number(),
-        out: Vec::from_slice(alloc, out.written())?,
-        notes: Vec::from_slice(alloc, notes.written())?,
-        ended: matches!(&ended.run, Some(run) if run.end == Some(End::Script)),
-        entries,
-        replies,
-    })
-}
-
-fn run(alloc: Global, words: &[&str], text: &[u8]) -> Result<Written, NoMemory> {
-    let fails = Fails {
-        reads: &[],
-        outs: &[],
-        notes: &[],
-    };
-    run_failing(alloc, words, text, &fails)
-}
-
-// Whether the letters with these lines lead to this status and these bytes.
-fn leads_to(alloc: Global, lines: &str, status: i32, out: &str, notes: &str) -> Result<bool, Fail> {
-    let text = letters(alloc, lines)?;
-    let written = run(alloc, &["replay", "s"], &text)?;
-    Ok(
-        written.status == status
-            && written.out.as_slice() == out.as_bytes()
-            && written.notes.as_slice() == notes.as_bytes()
-            && written.ended == (status == 0),
-    )
-}
 
 // Whether these words get the usage text and nothing else.
 fn is_usage(alloc: Global, words: &[&str]) -> Result<bool, Fail> {
@@ -217,22 +132,6 @@ fn each_place_has_its_own_plan(rt: HostRuntime) -> Result<(), Fail> {
     Ok(())
 }
 
-// The title, the word so many times, and the end.
-fn repeated(
-    alloc: Global,
-    title: &str,
-    word: &str,
-    times: usize,
-    end: &str,
-) -> Result<String, AllocError> {
-    let mut text = String::from_str(alloc, title)?;
-    for _ in 0..times {
-        text.push_str(word)?;
-    }
-    text.push_str(end)?;
-    Ok(text)
-}
-
 // Whether the first of three steps, replaced by so many that do nothing, leads to these bytes.
 fn idle_steps_lead_to(alloc: Global, steps: usize, out: &str, notes: &str) -> Result<bool, Fail> {
     let title = "goal (y)\nplan (flip) (ac) (get2)\nreplace 0 early 1:(flip) with";
@@ -339,10 +238,10 @@ fn a_text_that_is_no_script_is_refused(rt: HostRuntime) -> Result<(), Fail> {
     assert!(rt;
         leads_to(
             alloc,
-            "goal\nplan\nrebuild\nend\n",
+            "goal\nplan\nrebuild 1\nend\n",
             3,
             "",
-            "script: 19: Later\n"
+            "script: 19: Shape\n"
         )?
     );
     assert!(rt; leads_to(alloc, "goal\nplan\n", 3, "", "script: 19: Shape\n")?);
@@ -557,25 +456,6 @@ fn facts_past_their_limit_are_told_first(rt: HostRuntime) -> Result<(), Fail> {
     Ok(())
 }
 
-// A text with so many lines that begin with the head, a number and the tail, between a first and a last part.
-fn many_lines(
-    alloc: Global,
-    first: &str,
-    head: &str,
-    tail: &str,
-    lines: u64,
-    last: &str,
-) -> Result<Vec<u8>, NoMemory> {
-    let mut text = Vec::from_slice(alloc, first.as_bytes())?;
-    for line in 0..lines {
-        text.extend_from_slice(head.as_bytes())?;
-        push_number(&mut text, line)?;
-        text.extend_from_slice(tail.as_bytes())?;
-    }
-    text.extend_from_slice(last.as_bytes())?;
-    Ok(text)
-}
-
 // A script of so many actions, which do nothing.
 fn actions_script(alloc: Global, actions: u64) -> Result<Vec<u8>, NoMemory> {
     many_lines(
@@ -598,18 +478,6 @@ fn offers_script(alloc: Global, offers: u64) -> Result<Vec<u8>, NoMemory> {
         offers,
         "end\n",
     )
-}
-
-// The limit that a text passes, and the count that is told; `None` where it is a script within the limits.
-fn limit_passed(alloc: Global, text: &[u8]) -> Result<Option<(Limit, u64)>, Fail> {
-    if text.len() > 100_000_000 {
-        return Err("too long for the test")?;
-    }
-    match read_script(alloc, text) {
-        Ok(_) => Ok(None),
-        Err(TextErr::Over { limit, count }) => Ok(Some((limit, count))),
-        Err(_) => Err("no script")?,
-    }
 }
 
 // No text that the program reads can pass these two, so the reader is asked.

@@ -1,4 +1,9 @@
+pub mod AcceptLemmas
 pub mod CoreLemmas
+pub mod DepthLemmas
 pub mod LawLemmas
 pub mod MeasureLemmas
 pub mod RangeLemmas
+pub mod RebuildLemmas
+pub mod SideLemmas
+pub mod TightenLemmas

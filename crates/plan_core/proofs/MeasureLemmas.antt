@@ -23,7 +23,7 @@ pub clash : (b : Bool) → b ≡ true → b ≡ false → ⊥
 clash b yes' no' = both_ways b no' yes'
 
 -- distinct lists
-distinct_parts : (xs ys : List ℕ) → are_distinct (xs ++ ys) ≡ true → (are_distinct xs ≡ true) × (are_distinct ys ≡ true) × ((q : ℕ) → has xs q ≡ true → has ys q ≡ false)
+pub distinct_parts : (xs ys : List ℕ) → are_distinct (xs ++ ys) ≡ true → (are_distinct xs ≡ true) × (are_distinct ys ≡ true) × ((q : ℕ) → has xs q ≡ true → has ys q ≡ false)
 distinct_parts [] ys d = (refl, d, λ q h. absurd (both_ways false refl h))
 distinct_parts (x ∷ xs) ys d =
     let p = and_parts (not (has (xs ++ ys) x)) (are_distinct (xs ++ ys)) d in
@@ -181,7 +181,7 @@ own_id = by_node HasOwnId
     (λ id kids order e. ap (λ z. has z (id_of (Block id kids order))) (ids_of-Block id kids order) ∙ or_left _ _ (eq-eqb id (id_of (Block id kids order)) (sym (id_of-Block id kids order))))
 
 -- the kids' own ids are among all ids below
-own_among : (kids : List Node) (q : ℕ) → has (joined (map ids_of kids)) q ≡ false → has (map id_of kids) q ≡ false
+pub own_among : (kids : List Node) (q : ℕ) → has (joined (map ids_of kids)) q ≡ false → has (map id_of kids) q ≡ false
 own_among [] q h = refl
 own_among (k ∷ ks) q h =
     let p = or_false (has (ids_of k) q) _ (sym (has-append (ids_of k) (joined (map ids_of ks)) q) ∙ h) in
@@ -205,7 +205,7 @@ abbrev layer_is_block : Node-F Node → Bool
 layer_is_block (Node-F.Step id a) = false
 layer_is_block (Node-F.Block id kids order) = true
 
-kids_same : (i j : ℕ) (ks ls : List Node) (o p : List (ℕ × ℕ)) → Block i ks o ≡ Block j ls p → ks ≡ ls
+pub kids_same : (i j : ℕ) (ks ls : List Node) (o p : List (ℕ × ℕ)) → Block i ks o ≡ Block j ls p → ks ≡ ls
 kids_same i j ks ls o p e = sym (ap layer_kids (outs-Block i ks o)) ∙ ap (λ n. layer_kids (out-Node n)) e ∙ ap layer_kids (outs-Block j ls p)
 
 no_step : (i a j : ℕ) (ls : List Node) (p : List (ℕ × ℕ)) → Step i a ≡ Block j ls p → ⊥
@@ -215,10 +215,10 @@ abbrev of_some : Node → Option Node → Node
 of_some d None = d
 of_some d (Some n) = n
 
-some_same : (x y : Node) → Some x ≡ Some y → x ≡ y
+pub some_same : (x y : Node) → Some x ≡ Some y → x ≡ y
 some_same x y e = ap (of_some x) e
 
-is_there_at_all : (x : Node) → None ≡ Some x → ⊥
+pub is_there_at_all : (x : Node) → None ≡ Some x → ⊥
 is_there_at_all x e = clash (is_some (Some x)) refl (ap is_some (sym e))
 
 -- a tree without the window's block stays
@@ -229,7 +229,7 @@ module _ (window : Window) (list : List ℕ) (next : ℕ) where
   abbrev Stays : Node → Type 0
   Stays n = has (ids_of n) window.block ≡ false → goes n ≡ n
 
-  all_stay : (ks : List Node) → Each Stays ks → has (joined (map ids_of ks)) window.block ≡ false → map goes ks ≡ ks
+  pub all_stay : (ks : List Node) → Each Stays ks → has (joined (map ids_of ks)) window.block ≡ false → map goes ks ≡ ks
   all_stay [] e h = refl
   all_stay (k ∷ ks) e h =
       let p = or_false _ _ (sym (has-append (ids_of k) (joined (map ids_of ks)) window.block) ∙ h) in
@@ -242,7 +242,7 @@ module _ (window : Window) (list : List ℕ) (next : ℕ) where
       let p = or_false _ _ (sym (ap (λ z. has z window.block) (ids_of-Block own kids order)) ∙ h) in
       merged-Block window list next own kids order ∙ cond-false _ _ _ p.0 ∙ ap (λ z. Block own z order) (all_stay kids e p.1))
 
-  each_stays : (ks : List Node) → Each Stays ks
+  pub each_stays : (ks : List Node) → Each Stays ks
   each_stays [] = tt
   each_stays (k ∷ ks) = (stays k, each_stays ks)
 

@@ -1,18 +1,21 @@
 -- What holds of each node of a tree and of each new step holds of each node of the merged tree.
-use Rattle.std.proofs.Common.{◌≡◌, ℕ, ◌+◌, ◌<◌, Bool, true, false, ◌&&◌, eqb, nat_lt, cond, List, [], ◌∷◌, ◌++◌, map, filter, Option, Some, None, inl, inr, refl, sym, ap, ◌∙◌, subst, lt-ltb}
+use Rattle.std.proofs.Common.{◌≡◌, ℕ, ◌+◌, ◌<◌, Bool, true, false, ◌&&◌, eqb, nat_lt, cond, List, [], ◌∷◌, ◌++◌, map, filter, Option, Some, None, inl, inr, refl, sym, ap, ◌∙◌, subst, lt-ltb, arith}
 use Rattle.std.specs.List.{list_all, enumerate_from, AllByRecursion}
 use Rattle.std.proofs.lemmas.Bool.{and_parts, and_from}
 use Rattle.bd_tree.specs.declared.node.Node.{Node, Step, Block}
 use Rattle.bd_tree.specs.declared.node.Node.TheOpen.{Node-F}
 use Rattle.bd_tree.specs.declared.node.Node.TheViews.{rolls-Step, rolls-Block}
-use Rattle.bd_tree.specs.declared.node.Node.TheFolds.{fold-roll-Node}
+use Rattle.bd_tree.specs.declared.node.Node.TheFolds.{fold-Node, fold-roll-Node}
 use Rattle.bd_tree.specs.Chain.{steps_from}
-use Rattle.bd_tree.specs.Tree.{find_in, first_some}
+use Rattle.bd_tree.specs.Tree.{find_in, first_some, total}
 use Rattle.bd_tree.proofs.NodeLemmas.{Each, by_node}
 use Rattle.bd_links.specs.Sound.{are_below, below_step}
 use Rattle.bd_merge.specs.Merged.{merged, merged_block, merged_kids, fronts, backs, is_front, is_back}
 use Rattle.bd_merge.specs.declared.window.Window.{Window}
+use Rattle.bd_shape.specs.Measures.{AddUpAlike}
+use Rattle.plan_core.specs.Rebuilt.{leaves_of, rebuilt}
 use Rattle.plan_core.proofs.MeasureLemmas.{clash}
+use Rattle.plan_core.proofs.RebuildLemmas.{leaves_pass}
 use Rattle.bd_merge.proofs.MergeLemmas.{merged-Step, merged-Block}
 use Rattle.bd_merge.specs.Stands.{IsAmong, AreAmong, IsThere}
 use Rattle.std.specs.Option.{is_some}
@@ -81,6 +84,56 @@ module _ (n : ℕ) where
 
   pub merged_below : (root : Node) (window : Window) (list : List ℕ) (next : ℕ) → AllByRecursion (λ a. a < n) list → are_below n root ≡ true → are_below n (merged root window list next) ≡ true
   merged_below root window list next h e = keeps_merge window list next (are_below n) (λ id. true) below-Block (steps_below next list h) root e
+
+module _ (n : ℕ) where
+  pub rebuilt_below : (root : Node) (order : List (ℕ × ℕ)) → are_below n root ≡ true → are_below n (rebuilt root order) ≡ true
+  rebuilt_below root order e =
+      below-Block n 0 (leaves_of root) order ∙ leaves_pass (are_below n) (λ id kids o h. sym (below-Block n id kids o) ∙ h) root e
+
+-- how many steps have an action that is out of range
+module _ (n : ℕ) where
+  abbrev out_step : Node-F ℕ → ℕ
+  out_step (Node-F.Step id action) = cond (nat_lt action n) 0 1
+  out_step (Node-F.Block id kids order) = total kids
+
+  abbrev out_of : Node → ℕ
+  out_of = fold-Node ℕ out_step
+
+  out-Step : (id a : ℕ) → out_of (Step id a) ≡ cond (nat_lt a n) 0 1
+  out-Step id a = ap out_of (sym (rolls-Step id a)) ∙ fold-roll-Node ℕ out_step (Node-F.Step id a)
+
+  out-Block : (id : ℕ) (kids : List Node) (order : List (ℕ × ℕ)) → out_of (Block id kids order) ≡ total (map out_of kids)
+  out-Block id kids order = ap out_of (sym (rolls-Block id kids order)) ∙ fold-roll-Node ℕ out_step (Node-F.Block id kids order)
+
+  -- none is exactly where all are in range
+  abbrev IsCounted : Node → Type 0
+  IsCounted m = (are_below n m ≡ true → out_of m ≡ 0) × (out_of m ≡ 0 → are_below n m ≡ true)
+
+  step_counted : (id a : ℕ) → IsCounted (Step id a)
+  step_counted id a = at (nat_lt a n) (below-Step n id a) (out-Step id a)
+    where
+      at : (b : Bool) → are_below n (Step id a) ≡ b → out_of (Step id a) ≡ cond b 0 1 → IsCounted (Step id a)
+      at true below out = ((λ e. out), (λ e. below))
+      at false below out = ((λ e. absurd (clash _ e below)), (λ e. absurd (omega (arith, out, e))))
+
+  kids_counted : (kids : List Node) → Each IsCounted kids → (list_all (λ b. b) (map (are_below n) kids) ≡ true → total (map out_of kids) ≡ 0) × (total (map out_of kids) ≡ 0 → list_all (λ b. b) (map (are_below n) kids) ≡ true)
+  kids_counted [] e = ((λ h. refl), (λ h. refl))
+  kids_counted (k ∷ ks) e =
+      let rest = kids_counted ks e.1 in (
+        (λ h. let p = and_parts (are_below n k) _ h in omega (arith, e.0.0 p.0, rest.0 p.1)),
+        (λ h. and_from _ _ (e.0.1 (omega (arith, h))) (rest.1 (omega (arith, h)))),
+      )
+
+  all_counted : (m : Node) → IsCounted m
+  all_counted = by_node IsCounted step_counted
+      (λ id kids order e. let rest = kids_counted kids e in (
+        (λ h. out-Block id kids order ∙ rest.0 (sym (below-Block n id kids order) ∙ h)),
+        (λ h. below-Block n id kids order ∙ rest.1 (sym (out-Block id kids order) ∙ h)),
+      ))
+
+  -- so trees with the same steps are in range together
+  pub below_alike : (old new : Node) → AddUpAlike old new → are_below n old ≡ true → are_below n new ≡ true
+  below_alike old new alike h = (all_counted new).1 (alike out_of out-Block ∙ (all_counted old).0 h)
 
 -- what is found in a tree, and what is carried of it, is in range too
 module _ (n : ℕ) (id : ℕ) where

@@ -3,7 +3,7 @@ use Rattle.std.specs.Prelude.{◌≡◌, ℕ, ◌+◌, ◌*◌, ◌<◌, ◌≤�
 use Rattle.bd_task.specs.TaskView.{TaskView}
 use Rattle.bd_task.specs.Valid.{cost_of}
 use Rattle.bd_tree.specs.declared.node.Node.{Node}
-use Rattle.bd_tree.specs.Tree.{steps_of, nodes_of, ids_of, greatest, listed_of}
+use Rattle.bd_tree.specs.Tree.{depth_of, steps_of, nodes_of, ids_of, greatest, listed_of}
 use Rattle.bd_tree.specs.WellFormed.{IsWellFormed}
 use Rattle.bd_links.specs.Sound.{IsSound, RunsAlways, are_below}
 use Rattle.plan_core.specs.Core.{CoreView, opened, state_of, opening, accepted, replay, is_replacement, is_due}
@@ -20,12 +20,15 @@ IsLegalFrom core (offer ∷ rest) = Replies core offer (Ok (length core.history 
 abbrev pub IsLegal : CoreView → Type 0
 IsLegal core = IsLegalFrom (opening core.task core.start core.stop) core.history
 
--- what numbers need: the actions are the task's, and each accepted offer takes at most 4,096 ids
+-- what numbers need: the actions are the task's, and each accepted offer takes at most 4,096 ids and adds at most two
+-- blocks
 pub record HasRoom (core : CoreView) : Type 0 where
   pub formed : IsWellFormed core.tree
   pub in_range : are_below (length core.task.actions) core.tree ≡ true
   pub short : steps_of core.tree ≤ 4_096
-  pub few : nodes_of core.tree ≤ 2 ^ 24 + steps_of core.tree
+  pub shallow : depth_of core.tree ≤ 64
+  pub entries : length core.history ≤ 2 ^ 24
+  pub few : nodes_of core.tree ≤ 2 ^ 24 + steps_of core.tree + 2 * length core.history
   pub fresh : greatest (ids_of core.tree) < core.next
   pub ids : core.next ≤ 2 ^ 32 + 4_096 * length core.history
 
@@ -55,6 +58,7 @@ cost_at core place = cost_of core.task (listed_of (tree_at core place))
 pub record MayBegin (task : TaskView) (start : Node) : Type 0 where
   pub formed : IsWellFormed start
   pub actions : are_below (length task.actions) start ≡ true
+  pub shallow : depth_of start ≤ 64
   pub short : steps_of start ≤ 2_000
   pub few : nodes_of start < 2 ^ 24
   pub ids : greatest (ids_of start) < 2 ^ 32
@@ -73,12 +77,18 @@ Leads core (step ∷ rest) last = Replies core step.0 step.1 × Leads (after_rep
 abbrev pub OpensOn : TaskView → Node → ℕ → CoreView → Type 0
 OpensOn task start stop core = (core.task ≡ task) × (core.start ≡ start) × (core.stop ≡ stop)
 
--- what holds after any offers: at each place each linearisation of the tree is valid, and the cost never rises
+-- what holds after any offers: at each place the tree is sound and within the limits on steps and on depth, each
+-- linearisation of it is valid, and the cost never rises
 pub record IsLawful (core : CoreView) : Type 0 where
+  pub short : steps_of core.tree ≤ 4_096
+  pub shallow : depth_of core.tree ≤ 64
   pub sound : IsSound core.task core.tree
   pub runs : RunsAlways core.task core.tree
   pub legal : IsLegal core
   pub replays : replay (opened core.start) core.history ≡ state_of core
+  pub short_at : (place : ℕ) → steps_of (tree_at core place) ≤ 4_096
+  pub shallow_at : (place : ℕ) → depth_of (tree_at core place) ≤ 64
+  pub sound_at : (place : ℕ) → IsSound core.task (tree_at core place)
   pub runs_at : (place : ℕ) → RunsAlways core.task (tree_at core place)
   pub falls : (place : ℕ) → cost_at core (place + 1) ≤ cost_at core place
 

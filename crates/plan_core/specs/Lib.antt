@@ -1,3 +1,5 @@
 pub mod Core
 pub mod Law
+pub mod Rebuilt
 pub mod Replies
+pub mod Sides

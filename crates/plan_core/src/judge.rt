@@ -1,11 +1,13 @@
 ghost use Rattle.std.specs.Prelude.{◌≡◌, ◌+◌, ◌<◌, ◌≤◌, ◌^◌, length, count_by, take, IsTrue, IfErr, IfOk, OnOk, OnErr};
 ghost use Rattle.bd_links.specs.Sound.{are_below};
 ghost use Rattle.bd_tree.specs.Tree.{depth_of, steps_of, nodes_of, ids_of, greatest};
-ghost use Rattle.plan_core.specs.Core.{Begins, accepted, opened, replay, is_closed, is_due, is_replacement};
+ghost use Rattle.plan_core.specs.Core.{Begins, accepted, tree_after, opened, replay, is_closed, is_due, is_rebuild, is_replacement, is_tightening};
 ghost use Rattle.plan_core.specs.Law.{IsCore, IsLawful, IsPrintable, tree_at};
-ghost use Rattle.plan_core.specs.Replies.{IsLent, Replies, TellsFact};
+ghost use Rattle.plan_core.specs.Replies.{IsApplicable, IsLent, Judges, Replies, TellsFact};
 ghost use Rattle.plan_core.specs.declared.judge.BeginErr.TheVariants.{NoMemory as OutOfMemory};
 
+use crate::rebuild::rebuilt;
+use crate::sides::tightened;
 use crate::{Offer, Refusal};
 use bd_base::{NoMemory, NodeId};
 use bd_links::{Fault, check};
@@ -99,8 +101,8 @@ impl Core {
         &self.task
     }
 
-    /// The tree: the history is legal from the start tree and replays to it, at each place each linearisation of
-    /// the tree there is valid, and the cost never rose.
+    /// The tree: the history is legal from the start tree and replays to it, at each place the tree there is sound
+    /// with at most 4,096 steps and 64 levels, each linearisation of it is valid, and the cost never rose.
     pub fn tree(&self) -> &Tree
         ensures tree { result.now ≡ self.now.tree }
         ensures lawful { IsLawful self.now }
@@ -158,6 +160,29 @@ impl Core {
         let _ = &self.task;
     }
 
+    // The tree of an offer that may be accepted, or why it is refused.
+    fn judge(&self, alloc: Global, offer: &Offer) -> Result<Tree, Refusal>
+        requires { IsLent offer.now }
+        ensures judges { Judges self.now offer.now result }
+        ensures fact { IfErr result (λ why. TellsFact (length self.now.task.facts) why) }
+    {
+        if self.closed() {
+            return Err(Refusal::Closed {
+                replaced: self.replaced(),
+                entries: self.history().len() as u64,
+            });
+        }
+        match offer {
+            Offer::Replace { window, actions } => {
+                self.judge_replacement(alloc, window, actions.as_slice())
+            }
+            Offer::Tighten { block, left, right } => {
+                self.judge_tightening(alloc, *block, left.as_slice(), right.as_slice())
+            }
+            Offer::Rebuild { order } => self.judge_rebuild(alloc, order),
+        }
+    }
+
     /// Judges an offer by itself, and takes it where no refusal has its condition: then it is the last entry of
     /// the history, and the answer is its place, from 1. A refused offer changes nothing.
     pub fn offer(&mut self, alloc: Global, offer: &Offer) -> Result<u64, Refusal>
@@ -167,28 +192,28 @@ impl Core {
         ensures ok { OnOk result (self.new ≡ accepted offer.now self.old) }
         ensures err { OnErr result (self.new ≡ self.old) }
     {
-        let (window, actions) = offer.replacement();
-        let tree = self.judge_replacement(alloc, window, actions)?;
+        let tree = self.judge(alloc, offer)?;
         self.history.push(offer.try_copy(alloc)?)?;
         self.tree = tree;
-        self.next += actions.len() as u64;
-        self.replaced += 1;
-        self.due = true;
+        self.next += offer.new_ids();
+        self.replaced += offer.replaced();
+        self.due = offer.leaves_due(self.due);
         Ok(self.history.len() as u64)
     }
 
-    /// The tree after the first `place` entries of the history.
+    /// The tree after the first `place` entries of the history, of which all holds that `tree` tells.
     pub fn at(&self, alloc: Global, place: u64) -> Result<Tree, NoMemory>
         requires { place ≤ length self.now.history }
-        ensures { IfOk result (λ t. t ≡ tree_at self.now place) }
+        ensures tree { IfOk result (λ t. t ≡ tree_at self.now place) }
+        ensures lawful { IsLawful self.now }
+        ensures printable { IsPrintable self.now.task (tree_at self.now place) }
     {
         self.keeps();
         let mut tree = self.start().try_copy(alloc)?;
         let mut next = NodeId(self.start().root().top_id().0 + 1);
         for offer in &self.history()[..place as usize] {
-            let (window, actions) = offer.replacement();
-            tree = merged(alloc, &tree, window, actions, next)?;
-            next = NodeId(next.0 + actions.len() as u64);
+            tree = tree_after(alloc, &tree, next, offer)?;
+            next = NodeId(next.0 + offer.new_ids());
         }
         Ok(tree)
     }
@@ -217,14 +242,54 @@ impl Core {
     }
 }
 
+// The tree that an accepted offer makes of a tree.
+fn tree_after(alloc: Global, tree: &Tree, next: NodeId, offer: &Offer) -> Result<Tree, NoMemory>
+    requires { IsApplicable offer.now (record { tree = tree.now; next = next }) }
+    ensures { IfOk result (λ t. t ≡ tree_after offer.now (record { tree = tree.now; next = next })) }
+{
+    match offer {
+        Offer::Replace { window, actions } => merged(alloc, tree, window, actions.as_slice(), next),
+        Offer::Tighten { block, left, right } => {
+            tightened(alloc, tree, next, *block, left.as_slice(), right.as_slice())
+        }
+        Offer::Rebuild { order } => rebuilt(alloc, tree, order),
+    }
+}
+
 /// How many of the offers are replacements.
 pub fn replacements(history: &[Offer]) -> usize
     ensures { result ≡ count_by is_replacement history.now }
 {
     let mut count = 0;
     for offer in history {
-        match offer {
-            Offer::Replace { .. } => count += 1,
+        if offer.is_replacement() {
+            count += 1;
+        }
+    }
+    count
+}
+
+/// How many of the offers are tightenings.
+pub fn tightenings(history: &[Offer]) -> usize
+    ensures { result ≡ count_by is_tightening history.now }
+{
+    let mut count = 0;
+    for offer in history {
+        if offer.is_tightening() {
+            count += 1;
+        }
+    }
+    count
+}
+
+/// How many of the offers are rebuilds.
+pub fn rebuilds(history: &[Offer]) -> usize
+    ensures { result ≡ count_by is_rebuild history.now }
+{
+    let mut count = 0;
+    for offer in history {
+        if offer.is_rebuild() {
+            count += 1;
         }
     }
     count

@@ -4,7 +4,8 @@ ghost use Rattle.std.specs.List.{list_all};
 ghost use Rattle.bd_links.specs.Sound.{are_below};
 ghost use Rattle.bd_task.specs.Valid.{cost_of};
 ghost use Rattle.bd_tree.specs.Tree.{nodes_of, steps_of, listed_of, total, joined};
-ghost use Rattle.plan_core.specs.Replies.{IsOpen, AreKnown, IsAt, IsCheaper, Judges, Refuses, TellsFact, Tests, unknown_of};
+ghost use Rattle.plan_core.specs.Replies.{IsOpen, AreKnown, IsAt, IsCheaper, Judges, TellsFact, TestsReplace, unknown_of};
+ghost use Rattle.plan_core.specs.declared.offer.Offer.TheVariants.{Replace};
 
 use crate::{Core, Refusal};
 use bd_base::ActionId;
@@ -54,18 +55,12 @@ fn steps_among(nodes: &[Node]) -> u64
 impl Core {
     // Whether the replacement is refused before a tree is merged.
     fn test_replacement(&self, window: &Window, list: &[ActionId]) -> Result<(), Refusal>
-        requires { length list.now < 2 ^ 32 }
-        ensures tests { Tests self.now window.now list.now result }
+        requires open { IsOpen self.now }
+        requires few { length list.now < 2 ^ 32 }
+        ensures tests { TestsReplace self.now window.now list.now result }
         ensures fact { IfErr result (λ why. TellsFact (length self.now.task.facts) why) }
     {
         self.keeps();
-        if self.closed() {
-            let entries = self.history().len() as u64;
-            return Err(Refusal::Closed {
-                replaced: self.replaced(),
-                entries,
-            });
-        }
         if let Some(number) = first_unknown(self.task().actions(), list) {
             return Err(Refusal::NoAction { number });
         }
@@ -94,8 +89,9 @@ impl Core {
         window: &Window,
         list: &[ActionId],
     ) -> Result<Tree, Refusal>
-        requires { length list.now < 2 ^ 32 }
-        ensures judges { Judges self.now window.now list.now result }
+        requires open { IsOpen self.now }
+        requires few { length list.now < 2 ^ 32 }
+        ensures judges { Judges self.now (Replace window.now list.now) result }
         ensures fact { IfErr result (λ why. TellsFact (length self.now.task.facts) why) }
     {
         self.keeps();

@@ -9,12 +9,14 @@ use Rattle.bd_task.specs.TaskView.{IsTask}
 use Rattle.plan_core.specs.Replies.{IsLent}
 use Rattle.script_text.specs.declared.script.Script.{Script}
 use Rattle.script_text.specs.Lines.{worded}
-use Rattle.script_text.specs.Reading.{Fault, script_at}
+use Rattle.script_text.specs.Reading.{Fault}
+use Rattle.script_text.specs.Whole.{script_at}
 use Rattle.script_text.specs.Limits.{over_of, Answers, Spelled}
-use Rattle.script_text.specs.Range.{HasActionsBelow}
+use Rattle.script_text.specs.Range.{HasActionsBelow, StartsBy}
 use Rattle.script_text.specs.Spells.{AreNew}
 use Rattle.script_text.proofs.FitLemmas.{task_fits, plan_below, all_below, stop_fits, offers_below, names_new}
 use Rattle.script_text.proofs.LentLemmas.{all_lent}
+use Rattle.script_text.proofs.StartLemmas.{starts_by}
 use Rattle.script_text.proofs.SpellsLemmas.{spelled_read}
 use Rattle.script_text.proofs.WholeLemmas.{read_spelled}
 
@@ -36,6 +38,10 @@ in_range_of text (Err e) h = tt
 pub stops_of : (text : List ℕ) (result : Result Script TextErr) → Answers result (script_at (worded text)) → IfOk result (λ (s : Script). (0 < s.stop) × (s.stop ≤ 1_000_000))
 stops_of text (Ok s) h = let k = read_spelled text s h.0 in stop_fits k.source.stop s.stop k.stop
 stops_of text (Err e) h = tt
+
+pub start_of : (text : List ℕ) (result : Result Script TextErr) → Answers result (script_at (worded text)) → IfOk result (λ (s : Script). StartsBy (length s.task.actions) (length text) s.plan s.start)
+start_of text (Ok s) h = starts_by text s (read_spelled text s h.0)
+start_of text (Err e) h = tt
 
 pub offers_in_range_of : (text : List ℕ) (result : Result Script TextErr) → Answers result (script_at (worded text)) → IfOk result (λ (s : Script). All (λ o. HasActionsBelow (length s.task.actions) o) s.offers)
 offers_in_range_of text (Ok s) h = offers_below text s (read_spelled text s h.0)

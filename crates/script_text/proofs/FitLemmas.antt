@@ -1,7 +1,7 @@
 -- A script within the limits meets the conditions of a task, and its plan is in range.
-use Rattle.std.proofs.Common.{◌≡◌, ℕ, ◌<◌, ◌≤◌, Bool, true, false, cond, not, eqb, nat_lt, List, [], ◌∷◌, Option, Some, None, map, length, refl, sym, ap, subst, ◌∙◌, arith}
+use Rattle.std.proofs.Common.{◌≡◌, ℕ, ◌<◌, ◌≤◌, Bool, true, false, cond, not, eqb, nat_lt, List, [], ◌∷◌, ◌++◌, Option, Some, None, map, length, refl, sym, ap, subst, ◌∙◌, arith}
 use Rattle.std.specs.List.{list_all, All}
-use Rattle.std.proofs.lemmas.List.Elements.{All-nil, All-cons}
+use Rattle.std.proofs.lemmas.List.Elements.{All-nil, All-cons, All-append}
 use Rattle.std.specs.Str.{bytes_eq}
 use Rattle.std.proofs.lemmas.Bool.{or_left, or_right, both_ways}
 use Rattle.std.proofs.lemmas.List.Quantifiers.{position-Some}
@@ -12,17 +12,18 @@ use Rattle.bd_task.proofs.BelowLemmas.{below-plus, below-minus}
 use Rattle.bd_task.specs.declared.ground.Action.{Action}
 use Rattle.bd_task.specs.TaskView.{AreBelow, IsTask, AreActions}
 use Rattle.bd_task.specs.TaskView.{IsAction as MeetsTask}
-use Rattle.bd_tree.specs.Tree.{listed_of, listed_step}
-use Rattle.bd_tree.specs.declared.node.Node.{Node, Step}
+use Rattle.bd_tree.specs.Tree.{joined, listed_of, listed_step}
+use Rattle.bd_tree.specs.declared.node.Node.{Node, Step, Block}
 use Rattle.bd_tree.specs.declared.node.Node.TheFolds.{fold-roll-Node}
 use Rattle.bd_tree.specs.declared.node.Node.TheOpen.{Node-F}
-use Rattle.bd_tree.specs.declared.node.Node.TheViews.{rolls-Step}
+use Rattle.bd_tree.specs.declared.node.Node.TheViews.{rolls-Step, rolls-Block}
 use Rattle.plan_core.specs.declared.offer.Offer.{Offer}
 use Rattle.script_text.specs.declared.script.Script.{Script}
 use Rattle.script_text.specs.Lines.{number_of}
 use Rattle.script_text.specs.Range.{HasActionsBelow}
 use Rattle.script_text.specs.Limits.{over_of}
-use Rattle.script_text.specs.Spells.{Listed, Carried, Replacement, AreNew, ArePlaces, IsSetOf, IsAction, AreActionsOf, names_of, IsStop, IsStep, AreSteps, IsReplacement, AreReplacements, SpellsScript}
+use Rattle.script_text.specs.SpellsNodes.{SpellsNode, written_step, written_block, SpellsNodes, written_none, written_more}
+use Rattle.script_text.specs.Spells.{Listed, Replacement, Offered, replacement, tightening, rebuild, AreNew, ArePlaces, IsSetOf, IsAction, AreActionsOf, names_of, IsStop, IsReplacement, IsOffer, AreOffers, SpellsScript}
 use Rattle.script_text.proofs.LineLemmas.{lt_false}
 
 -- numbers below a bound
@@ -75,7 +76,7 @@ names_are facts [] (a ∷ actions) h = absurd h
 names_are facts (l ∷ listed) [] h = absurd h
 names_are facts (l ∷ listed) (a ∷ actions) h = cons2 _ _ _ _ (ap (λ (x : Action). x.name) h.0.whole) (names_are facts listed actions h.1)
 
-length-names : (facts : List (List ℕ)) (listed : List Listed) (actions : List Action) → AreActionsOf facts listed actions → length (names_of listed) ≡ length actions
+pub length-names : (facts : List (List ℕ)) (listed : List Listed) (actions : List Action) → AreActionsOf facts listed actions → length (names_of listed) ≡ length actions
 length-names facts [] [] h = refl
 length-names facts [] (a ∷ actions) h = absurd h
 length-names facts (l ∷ listed) [] h = absurd h
@@ -130,38 +131,63 @@ listed-Step id a = ap listed_of (sym (rolls-Step id a)) ∙ fold-roll-Node (List
 abbrev IsBelow : ℕ → Node → Type 0
 IsBelow n node = All (λ a. a < n) (listed_of node)
 
-step_fits : (declared : List (List ℕ)) (k : Carried) (node : Node) → IsStep declared k node → IsBelow (length declared) node
-step_fits declared k node h =
-    let P : List ℕ → Type 0 = All (λ a. a < length declared) in
-    let one : listed_of node ≡ h.action ∷ [] = ap listed_of h.whole ∙ listed-Step (number_of k.id) h.action in
-    let below : h.action < length declared = (position-Some (λ m. bytes_eq k.name m) declared h.action k.name h.known).0 in
-    subst P (sym one) (All-cons (λ a. a < length declared) h.action [] below (All-nil (λ a. a < length declared)))
+listed-Block : (id : ℕ) (kids : List Node) (order : List (ℕ × ℕ)) → listed_of (Block id kids order) ≡ joined (map listed_of kids)
+listed-Block id kids order = ap listed_of (sym (rolls-Block id kids order)) ∙ fold-roll-Node (List ℕ) listed_step (Node-F.Block id kids order)
 
-steps_fit : (declared : List (List ℕ)) (ks : List Carried) (nodes : List Node) → AreSteps declared ks nodes → All (IsBelow (length declared)) nodes
-steps_fit declared [] [] h = All-nil (IsBelow (length declared))
-steps_fit declared [] (n ∷ nodes) h = absurd h
-steps_fit declared (k ∷ ks) [] h = absurd h
-steps_fit declared (k ∷ ks) (n ∷ nodes) h = All-cons (IsBelow (length declared)) n nodes (step_fits declared k n h.0) (steps_fit declared ks nodes h.1)
+append_below : (n : ℕ) (xs ys : List ℕ) → All (λ a. a < n) xs → All (λ a. a < n) ys → All (λ a. a < n) (xs ++ ys)
+append_below n xs ys h k = All-append (λ a. a < n) xs ys h k
+
+mutual
+  node_fits : (declared : List (List ℕ)) {room : ℕ} {words : List (List ℕ)} {node : Node} → SpellsNode declared room words node → IsBelow (length declared) node
+  node_fits declared (written_step digits name action id n p ws is) =
+      let P : List ℕ → Type 0 = All (λ a. a < length declared) in
+      let one = ap listed_of is ∙ listed-Step (number_of digits) action in
+      let below : action < length declared = (position-Some (λ m. bytes_eq name m) declared action name p).0 in
+      subst P (sym one) (All-cons (λ a. a < length declared) action [] below (All-nil (λ a. a < length declared)))
+  node_fits declared (written_block inner digits kids_words pairs_words kids pairs deeper id spelled are ws is) =
+      let P : List ℕ → Type 0 = All (λ a. a < length declared) in
+      subst P (sym (ap listed_of is ∙ listed-Block (number_of digits) kids pairs)) (nodes_fit_joined declared spelled)
+
+  nodes_fit_joined : (declared : List (List ℕ)) {room : ℕ} {words : List (List ℕ)} {nodes : List Node} → SpellsNodes declared room words nodes → All (λ a. a < length declared) (joined (map listed_of nodes))
+  nodes_fit_joined declared (written_none ws is) =
+      let P : List Node → Type 0 = λ ns. All (λ a. a < length declared) (joined (map listed_of ns)) in
+      subst P (sym is) (All-nil (λ a. a < length declared))
+  nodes_fit_joined declared (written_more front back node rest spelled others ws is) =
+      let P : List Node → Type 0 = λ ns. All (λ a. a < length declared) (joined (map listed_of ns)) in
+      subst P (sym is) (append_below (length declared) (listed_of node) (joined (map listed_of rest)) (node_fits declared spelled) (nodes_fit_joined declared others))
+
+nodes_fit : (declared : List (List ℕ)) {room : ℕ} {words : List (List ℕ)} {nodes : List Node} → SpellsNodes declared room words nodes → All (IsBelow (length declared)) nodes
+nodes_fit declared (written_none ws is) =
+    let P : List Node → Type 0 = All (IsBelow (length declared)) in
+    subst P (sym is) (All-nil (IsBelow (length declared)))
+nodes_fit declared (written_more front back node rest spelled others ws is) =
+    let P : List Node → Type 0 = All (IsBelow (length declared)) in
+    subst P (sym is) (All-cons (IsBelow (length declared)) node rest (node_fits declared spelled) (nodes_fit declared others))
 
 pub all_below : (n : ℕ) (xs : List ℕ) → AreBelow n xs → All (λ a. a < n) xs
 all_below n [] b = All-nil (λ a. a < n)
 all_below n (x ∷ xs) b = All-cons (λ a. a < n) x xs b.0 (all_below n xs b.1)
 
-offer_fits : (declared : List (List ℕ)) (r : Replacement) (o : Offer) → IsReplacement declared r o → HasActionsBelow (length declared) o
-offer_fits declared r o h =
+replacement_fits : (declared : List (List ℕ)) (r : Replacement) (o : Offer) → IsReplacement declared r o → HasActionsBelow (length declared) o
+replacement_fits declared r o h =
     let P : Offer → Type 0 = HasActionsBelow (length declared) in
-    subst P (sym h.whole) (steps_fit declared r.kids h.kids h.carried, all_below (length declared) h.actions (places_below declared r.names h.actions h.list))
+    subst P (sym h.whole) (nodes_fit declared h.carried, all_below (length declared) h.actions (places_below declared r.names h.actions h.list))
 
-offers_fit : (declared : List (List ℕ)) (rs : List Replacement) (os : List Offer) → AreReplacements declared rs os → All (λ o. HasActionsBelow (length declared) o) os
+offer_fits : (declared : List (List ℕ)) (w : Offered) (o : Offer) → IsOffer declared w o → HasActionsBelow (length declared) o
+offer_fits declared (replacement r) o h = replacement_fits declared r o h
+offer_fits declared (tightening block left right) o h = let P : Offer → Type 0 = HasActionsBelow (length declared) in subst P (sym h.whole) tt
+offer_fits declared (rebuild pairs) o h = let P : Offer → Type 0 = HasActionsBelow (length declared) in subst P (sym h.whole) tt
+
+offers_fit : (declared : List (List ℕ)) (ws : List Offered) (os : List Offer) → AreOffers declared ws os → All (λ o. HasActionsBelow (length declared) o) os
 offers_fit declared [] [] h = All-nil (λ o. HasActionsBelow (length declared) o)
 offers_fit declared [] (o ∷ os) h = absurd h
-offers_fit declared (r ∷ rs) [] h = absurd h
-offers_fit declared (r ∷ rs) (o ∷ os) h = All-cons (λ x. HasActionsBelow (length declared) x) o os (offer_fits declared r o h.0) (offers_fit declared rs os h.1)
+offers_fit declared (w ∷ ws) [] h = absurd h
+offers_fit declared (w ∷ ws) (o ∷ os) h = All-cons (λ x. HasActionsBelow (length declared) x) o os (offer_fits declared w o h.0) (offers_fit declared ws os h.1)
 
 pub offers_below : (text : List ℕ) (s : Script) → SpellsScript text s → All (λ o. HasActionsBelow (length s.task.actions) o) s.offers
 offers_below text s h =
     let P : ℕ → Type 0 = λ n. All (λ o. HasActionsBelow n o) s.offers in
-    subst P (length-names h.source.facts h.source.actions s.task.actions h.actions) (offers_fit (names_of h.source.actions) h.source.replacements s.offers h.offers)
+    subst P (length-names h.source.facts h.source.actions s.task.actions h.actions) (offers_fit (names_of h.source.actions) h.source.offers s.offers h.offers)
 
 pub names_new : (text : List ℕ) (s : Script) → SpellsScript text s → AreNew [] s.task.facts × AreNew [] (map (λ (a : Action). a.name) s.task.actions)
 names_new text s h =

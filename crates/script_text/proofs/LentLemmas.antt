@@ -1,5 +1,5 @@
 -- A line has no more words than its text has bytes, so what a replacement lists is short enough to be lent.
-use Rattle.std.proofs.Common.{◌≡◌, ℕ, suc, ◌<◌, ◌≤◌, ◌^◌, Bool, true, false, cond, not, ◌&&◌, ◌==◌, List, [], ◌∷◌, ◌++◌, map, length, codes, sym, subst, arith}
+use Rattle.std.proofs.Common.{◌≡◌, ℕ, suc, ◌<◌, ◌≤◌, ◌^◌, Bool, true, false, cond, not, ◌&&◌, ◌==◌, List, [], ◌∷◌, ◌++◌, Option, Some, map, length, codes, sym, ap, subst, arith}
 use Rattle.std.specs.List.{slice_split, onto_first, All}
 use Rattle.std.proofs.lemmas.List.{length-append, length-map}
 use Rattle.std.proofs.lemmas.List.Elements.{All-nil, All-cons}
@@ -7,7 +7,10 @@ use Rattle.plan_core.specs.declared.offer.Offer.{Offer}
 use Rattle.plan_core.specs.Replies.{IsLent}
 use Rattle.script_text.specs.declared.script.Script.{Script}
 use Rattle.script_text.specs.Lines.{is_empty_list, without_cr, ended, lines, inside_after, pieces, filled, words, worded, in_parens}
-use Rattle.script_text.specs.Spells.{Replacement, Source, fact_line, action_line, stop_lines, step_word, replace_line, spelling, names_of, ArePlaces, IsReplacement, AreReplacements, SpellsScript}
+use Rattle.script_text.specs.Reading.{after_key}
+use Rattle.script_text.proofs.PartLemmas.{key_back}
+use Rattle.script_text.specs.Spells.{Replacement, Source, fact_line, action_line, start_lines, stop_lines, replace_line, spelling, names_of, Offered, replacement, tightening, rebuild, offer_line, ArePlaces, IsReplacement, AreIds, IsOffer, AreOffers, SpellsScript}
+use Rattle.script_text.specs.SpellsNodes.{ArePairs}
 
 -- each of the lists has at most n items
 abbrev AreShort : {X : Type 0} → ℕ → List (List X) → Type 0
@@ -83,14 +86,15 @@ all_words_few n (line ∷ ls) s = (omega (arith, s.0, words_few false line), all
 worded_short : (text : List ℕ) → AreShort (length text) (worded text)
 worded_short text = all_words_few (length text) (lines text) (lines_short text)
 
--- the replacements
+-- the offers
 
-replacements_short : (n : ℕ) (s : Source) → AreShort n (spelling s) → AreShort n (map replace_line s.replacements)
-replacements_short n s short =
+offers_short : (n : ℕ) (s : Source) → AreShort n (spelling s) → AreShort n (map offer_line s.offers)
+offers_short n s short =
     let actions = short_back n (map fact_line s.facts) _ short.1 in
     let init = short_back n (map action_line s.actions) _ actions in
-    let rest = short_back n (stop_lines s.stop) _ init.1.1.1 in
-    short_front n (map replace_line s.replacements) ((codes "end" ∷ []) ∷ []) rest
+    let stop = short_back n (start_lines s.start) _ init.1.1.1 in
+    let rest = short_back n (stop_lines s.stop) _ stop in
+    short_front n (map offer_line s.offers) ((codes "end" ∷ []) ∷ []) rest
 
 length-places : (declared names : List (List ℕ)) (places : List ℕ) → ArePlaces declared names places → length places ≡ length names
 length-places declared [] [] h = omega arith
@@ -98,24 +102,68 @@ length-places declared [] (i ∷ places) h = absurd h
 length-places declared (n ∷ names) [] h = absurd h
 length-places declared (n ∷ names) (i ∷ places) h = omega (arith, length-places declared names places h.2)
 
-names_few : (r : Replacement) → length r.names ≤ length (replace_line r)
-names_few r = omega (arith, length-append (map step_word r.kids) (codes "with" ∷ map in_parens r.names), length-map r.names in_parens)
+length-ids : (words : List (List ℕ)) (ids : List ℕ) → AreIds words ids → length ids ≡ length words
+length-ids [] [] h = omega arith
+length-ids [] (i ∷ ids) h = absurd h
+length-ids (w ∷ words) [] h = absurd h
+length-ids (w ∷ words) (i ∷ ids) h = omega (arith, length-ids words ids h.2)
 
-offer_lent : (declared : List (List ℕ)) (r : Replacement) (o : Offer) → IsReplacement declared r o → length (replace_line r) < 2 ^ 32 → IsLent o
-offer_lent declared r o h short =
+length-pairs : (words : List (List ℕ)) (pairs : List (ℕ × ℕ)) → ArePairs words pairs → length pairs ≡ length words
+length-pairs [] [] h = omega arith
+length-pairs [] (p ∷ pairs) h = absurd h
+length-pairs (w ∷ words) [] h = absurd h
+length-pairs (w ∷ words) (p ∷ pairs) h = omega (arith, length-pairs words pairs h.1)
+
+names_few : (r : Replacement) → length r.names ≤ length (replace_line r)
+names_few r = omega (arith, length-append r.kids (codes "with" ∷ map in_parens r.names), length-map r.names in_parens)
+
+replacement_lent : (declared : List (List ℕ)) (r : Replacement) (o : Offer) → IsReplacement declared r o → length (replace_line r) < 2 ^ 32 → IsLent o
+replacement_lent declared r o h short =
     let few : length h.actions < 2 ^ 32 = omega (arith, names_few r, length-places declared r.names h.actions h.list) in
     subst IsLent (sym h.whole) few
 
-offers_lent : (n : ℕ) (declared : List (List ℕ)) (rs : List Replacement) (os : List Offer) → n < 2 ^ 32 → AreShort n (map replace_line rs) → AreReplacements declared rs os → All IsLent os
+offer_lent : (declared : List (List ℕ)) (w : Offered) (o : Offer) → IsOffer declared w o → length (offer_line w) < 2 ^ 32 → IsLent o
+offer_lent declared (replacement r) o h short = replacement_lent declared r o h short
+offer_lent declared (tightening block left right) o h short =
+    let all = length-append left (codes "right" ∷ right) in
+    let one : length h.left_ids < 2 ^ 32 = omega (arith, all, length-ids left h.left_ids h.are_left) in
+    let two : length h.right_ids < 2 ^ 32 = omega (arith, all, length-ids right h.right_ids h.are_right) in
+    subst IsLent (sym h.whole) (one, two)
+offer_lent declared (rebuild pairs) o h short =
+    let few : length h.pairs < 2 ^ 32 = omega (arith, length-pairs pairs h.pairs h.are) in
+    subst IsLent (sym h.whole) few
+
+offers_lent : (n : ℕ) (declared : List (List ℕ)) (ws : List Offered) (os : List Offer) → n < 2 ^ 32 → AreShort n (map offer_line ws) → AreOffers declared ws os → All IsLent os
 offers_lent n declared [] [] lt s h = All-nil IsLent
 offers_lent n declared [] (o ∷ os) lt s h = absurd h
-offers_lent n declared (r ∷ rs) [] lt s h = absurd h
-offers_lent n declared (r ∷ rs) (o ∷ os) lt s h =
-    let short : length (replace_line r) < 2 ^ 32 = omega (arith, s.0) in
-    All-cons IsLent o os (offer_lent declared r o h.0 short) (offers_lent n declared rs os lt s.1 h.1)
+offers_lent n declared (w ∷ ws) [] lt s h = absurd h
+offers_lent n declared (w ∷ ws) (o ∷ os) lt s h =
+    let short : length (offer_line w) < 2 ^ 32 = omega (arith, s.0) in
+    All-cons IsLent o os (offer_lent declared w o h.0 short) (offers_lent n declared ws os lt s.1 h.1)
 
 pub all_lent : (text : List ℕ) (s : Script) → length text < 2 ^ 32 → SpellsScript text s → All IsLent s.offers
 all_lent text s lt h =
     let P : List (List (List ℕ)) → Type 0 = AreShort (length text) in
-    let short = replacements_short (length text) h.source (subst P h.spelled (worded_short text)) in
-    offers_lent (length text) (names_of h.source.actions) h.source.replacements s.offers lt short h.offers
+    let short = offers_short (length text) h.source (subst P h.spelled (worded_short text)) in
+    offers_lent (length text) (names_of h.source.actions) h.source.offers s.offers lt short h.offers
+
+-- the words of the start tree, which stand behind a key
+root_short : (n : ℕ) (ws : List (List ℕ)) (more : List (List (List ℕ))) → AreShort n (start_lines (Some ws) ++ more) → length ws < n
+root_short n ws more s = omega (arith, s.0)
+
+pub start_short : (text : List ℕ) (s : Source) (ws : List (List ℕ)) → worded text ≡ spelling s → s.start ≡ Some ws → length ws < length text
+start_short text s ws e some =
+    let P : List (List (List ℕ)) → Type 0 = AreShort (length text) in
+    let short = subst P e (worded_short text) in
+    let actions = short_back (length text) (map fact_line s.facts) _ short.1 in
+    let init = short_back (length text) (map action_line s.actions) _ actions in
+    let Q : Option (List (List ℕ)) → Type 0 = λ o. AreShort (length text) (start_lines o ++ (stop_lines s.stop ++ (map offer_line s.offers ++ (codes "end" ∷ []) ∷ []))) in
+    root_short (length text) ws _ (subst Q some init.1.1.1)
+
+-- the words behind the key of a text's first line
+pub key_short : (text key : List ℕ) (ws rest : List (List ℕ)) (more : List (List (List ℕ))) → worded text ≡ ws ∷ more → Some rest ≡ after_key key ws → length rest ≤ length text
+key_short text key ws rest more e k =
+    let P : List (List (List ℕ)) → Type 0 = AreShort (length text) in
+    let short : length ws ≤ length text = (subst P e (worded_short text)).0 in
+    let is = ap (λ (xs : List (List ℕ)). length xs) (key_back key ws rest (sym k)) in
+    omega arith

@@ -4,6 +4,8 @@ mod NameLemmas
 mod NumberLemmas
 mod SectionLemmas
 mod WordsReadLemmas
+mod NodesRead
+mod NodesBack
 mod OfferLemmas
 pub mod SpellsLemmas
 mod ReadLemmas
@@ -12,4 +14,5 @@ mod OfferBackLemmas
 mod WholeLemmas
 mod FitLemmas
 mod LentLemmas
+mod StartLemmas
 pub mod AnswerLemmas

@@ -54,6 +54,17 @@ line_back key left x e = by_lines left.0 left.1 e
         let y : x ≡ (b.0, (n + 1, ls)) = ok_is _ _ _ refl b.2 in
         rw y (joined _ _ _ _ (key_back key l b.0 (needed_ok _ (after_key key l) b.0 b.1)) refl)
 
+-- the lines behind a line begin one later
+pub line_next : (key : List ℕ) (left : Left) (x : List (List ℕ) × Left) → line_at key left ≡ Ok x → x.1.0 ≡ left.0 + 1
+line_next key left x e = by_lines left.0 left.1 e
+  where
+    by_lines : (n : ℕ) (ls : List (List (List ℕ))) → line_at key (n, ls) ≡ Ok x → x.1.0 ≡ n + 1
+    by_lines n [] h = cc
+    by_lines n (l ∷ ls) h =
+        let b = bind_ok (key_at n key l) _ x h in
+        let y : x ≡ (b.0, (n + 1, ls)) = ok_is _ _ _ refl b.2 in
+        ap (λ (z : List (List ℕ) × Left). z.1.0) y
+
 pub no_more_back : (left : Left) (u : Unit {0}) → no_more left ≡ Ok u → left.1 ≡ []
 no_more_back left u e = by_lines left.0 left.1 e
   where

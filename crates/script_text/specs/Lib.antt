@@ -1,9 +1,12 @@
-pub mod Plain
+pub mod Rest
 pub mod Lines
 pub mod Names
 pub mod Reading
+pub mod Nodes
+pub mod Whole
 pub mod Word
 pub mod Left
 pub mod Spells
+pub mod SpellsNodes
 pub mod Limits
 pub mod Range

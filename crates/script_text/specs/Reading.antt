@@ -1,20 +1,12 @@
 -- Reading from left to right, with the first fault that is met.
-use Rattle.std.specs.Prelude.{◌≡◌, ℕ, ◌+◌, ◌==◌, ◌||◌, Bool, cond, nat_le, List, [], ◌∷◌, ◌++◌, Option, Some, None, Result, Ok, Err, take, drop, codes}
-use Rattle.std.specs.List.{position_or_len}
+use Rattle.std.specs.Prelude.{◌≡◌, ℕ, ◌+◌, ◌==◌, Bool, cond, nat_le, List, [], ◌∷◌, ◌++◌, Option, Some, None, Result, Ok, Err, codes}
 use Rattle.std.specs.Str.{bytes_eq}
 use Rattle.bd_base.specs.Facts.{plus, minus}
 use Rattle.bd_base.specs.declared.text_err.Cause.{Cause}
 use Rattle.bd_base.specs.declared.text_err.Cause.TheVariants as cause
 use Rattle.bd_base.specs.declared.text_err.TextErr.{TextErr}
 use Rattle.bd_base.specs.declared.text_err.TextErr.TheVariants as errors
-use Rattle.bd_merge.specs.declared.window.Lean.{Lean}
-use Rattle.bd_merge.specs.declared.window.Lean.TheVariants as leans
 use Rattle.bd_task.specs.declared.ground.Action.{Action}
-use Rattle.bd_tree.specs.declared.node.Node.{Node, Step}
-use Rattle.plan_core.specs.declared.offer.Offer.{Offer}
-use Rattle.plan_core.specs.declared.offer.Offer.TheVariants.{Replace}
-use Rattle.script_text.specs.declared.script.Script.{Script}
-use Rattle.script_text.specs.Plain.{plain}
 use Rattle.script_text.specs.Lines.{is_number, number_of, is_name_byte, is_empty_list}
 use Rattle.script_text.specs.Names.{place_of, is_declared}
 
@@ -31,9 +23,9 @@ abbrev pub ◌>>=◌ : {A B : Type 0} → Result A Fault → (A → Result B Fau
 abbrev pub shape : ℕ → TextErr
 shape place = errors.At place cause.Shape
 
--- what the line asks for is not read yet
-abbrev pub later : ℕ → TextErr
-later place = errors.At place cause.Later
+-- what the line says can't be a part of a tree
+abbrev pub misfit : ℕ → TextErr
+misfit place = errors.At place cause.Misfit
 
 -- What a function returned, seen by view, is what reading gives, unless memory ran out.
 abbrev pub Fails : {Y : Type 0} → TextErr → Result Y Fault → Type 0
@@ -188,10 +180,6 @@ plan_line names left = do
   list ← list_at names left.0 [] line.0
   Ok (list, line.1)
 
--- the next line is of no form with this key, since none is read yet
-abbrev pub not_yet : List ℕ → Left → Result (Unit {0}) Fault
-not_yet key left = elim (left.1) [ [] ↦ Ok tt | l ∷ ls ↦ on_key (after_key key l) (Ok tt) (λ ws. Err (left.0, cause.Later)) ]
-
 -- the number that a word is, from 1 to 1,000,000
 abbrev pub stop_number : ℕ → List ℕ → Result ℕ Fault
 stop_number place word = number_at 1_000_000 place word >>= λ n. cond (n == 0) (Err (place, cause.BadNumber word)) (Ok n)
@@ -207,85 +195,3 @@ stop_at place words = do
 -- the number of the line of the stop, where there is one, and else the greatest
 abbrev pub stop_line : Left → Result (ℕ × Left) Fault
 stop_line left = elim (left.1) [ [] ↦ Ok (1_000_000, left) | l ∷ ls ↦ on_key (after_key (codes "stop") l) (Ok (1_000_000, left)) (λ ws. stop_at left.0 ws >>= λ stop. Ok (stop, (left.0 + 1, ls))) ]
-
--- whether the byte ends an id in the word of a node: `:` or `{`
-abbrev pub is_mark : ℕ → Bool
-is_mark b = b == 58 || b == 123
-
--- the bytes before the first mark of a word, and those from it on
-abbrev pub before_mark : List ℕ → List ℕ
-before_mark word = take (position_or_len is_mark word) word
-
-abbrev pub from_mark : List ℕ → List ℕ
-from_mark word = drop (position_or_len is_mark word) word
-
--- what follows the id of a step and the `:`; a block, with a `{` there, isn't read yet
-abbrev pub behind_id : ℕ → List ℕ → Result (List ℕ) Fault
-behind_id place [] = Err (place, cause.Shape)
-behind_id place (b ∷ bs) = cond (b == 58) (Ok bs) (Err (place, cause.Later))
-
--- the id of a node or of a block
-abbrev pub id_at : ℕ → List ℕ → Result ℕ Fault
-id_at place word = number_at 4_294_967_295 place word
-
--- the step that a word is
-unfoldable pub step_at : List (List ℕ) → ℕ → List ℕ → Result Node Fault
-step_at names place word = do
-  id ← id_at place (before_mark word)
-  name ← behind_id place (from_mark word)
-  action ← known_at names place name
-  Ok (Step id action)
-
--- the nodes up to `with`, behind those of a list, and what follows it
-abbrev pub kids_until : List (List ℕ) → ℕ → List Node → List (List ℕ) → Result (List Node × List (List ℕ)) Fault
-kids_until names place kids [] = Err (place, cause.Shape)
-kids_until names place kids (w ∷ ws) = cond (bytes_eq w (codes "with")) (Ok (kids, ws)) (step_at names place w >>= λ kid. kids_until names place (kids ++ kid ∷ []) ws)
-
-abbrev pub lean_at : ℕ → List ℕ → Result Lean Fault
-lean_at place word = cond (bytes_eq word (codes "early")) (Ok leans.Early) (cond (bytes_eq word (codes "late")) (Ok leans.Late) (Err (place, cause.Shape)))
-
--- the words behind `replace`
-unfoldable pub replace_at : List (List ℕ) → ℕ → List (List ℕ) → Result Offer Fault
-replace_at names place words = do
-  first ← word_at place words
-  block ← id_at place first.0
-  second ← word_at place first.1
-  side ← lean_at place second.0
-  kids ← kids_until names place [] second.1
-  actions ← list_at names place [] kids.1
-  Ok (Replace (record { block = block; kids = kids.0; lean = side }) actions)
-
--- the lines of replacements, up to one that begins otherwise, behind those of a list
-abbrev pub offers_at : List (List ℕ) → List Offer → ℕ → List (List (List ℕ)) → Result (List Offer × Left) Fault
-offers_at names offers number [] = Ok (offers, (number, []))
-offers_at names offers number (l ∷ ls) = on_key (after_key (codes "replace") l) (Ok (offers, (number, l ∷ ls))) (λ ws. replace_at names number ws >>= λ offer. offers_at names (offers ++ offer ∷ []) (number + 1) ls)
-
--- the last line, and nothing behind it
-unfoldable pub tail_at : Left → Result (Unit {0}) Fault
-tail_at left = do
-  no_tighten ← not_yet (codes "tighten") left
-  no_rebuild ← not_yet (codes "rebuild") left
-  line ← line_at (codes "end") left
-  none ← end_at left.0 line.0
-  no_more line.1
-
--- what follows the plan: the stop and the offers, by the names of the actions
-unfoldable pub rest_at : List (List ℕ) → Left → Result (ℕ × List Offer) Fault
-rest_at names left = do
-  no_start ← not_yet (codes "start") left
-  stop ← stop_line left
-  offers ← offers_at names [] stop.1.0 stop.1.1
-  end ← tail_at offers.1
-  Ok (stop.0, offers.0)
-
--- the whole text
-unfoldable pub script_at : List (List (List ℕ)) → Result Script Fault
-script_at text = do
-  head ← head_at text
-  facts ← facts_at [] head.0 head.1
-  actions ← actions_at facts.0 [] [] facts.1.0 facts.1.1
-  init ← set_line (codes "init") facts.0 actions.1
-  goal ← set_line (codes "goal") facts.0 init.1
-  plan ← plan_line actions.0.1 goal.1
-  rest ← rest_at actions.0.1 plan.1
-  Ok (plain (record { facts = facts.0; actions = actions.0.0; init = init.0; goal = goal.0 }) plan.0 rest.0 rest.1)

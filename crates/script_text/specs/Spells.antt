@@ -1,15 +1,17 @@
 -- What a text of a script spells.
-use Rattle.std.specs.Prelude.{◌≡◌, ℕ, ◌<◌, ◌≤◌, true, false, List, [], ◌∷◌, ◌++◌, Option, Some, None, map, codes}
+use Rattle.std.specs.Prelude.{◌≡◌, ℕ, ◌+◌, ◌<◌, ◌≤◌, length, true, false, List, [], ◌∷◌, ◌++◌, Option, Some, None, map, codes}
 use Rattle.bd_base.specs.Facts.{plus, minus}
 use Rattle.bd_merge.specs.declared.window.Lean.{Lean}
 use Rattle.bd_merge.specs.declared.window.Lean.TheVariants as leans
 use Rattle.bd_task.specs.declared.ground.Action.{Action}
-use Rattle.bd_tree.specs.declared.node.Node.{Node, Step}
+use Rattle.bd_tree.specs.declared.node.Node.{Node}
+use Rattle.bd_tree.specs.Misfit.{first_misfit}
+use Rattle.bd_tree.specs.Tree.{listed_of}
 use Rattle.plan_core.specs.declared.offer.Offer.{Offer}
-use Rattle.plan_core.specs.declared.offer.Offer.TheVariants.{Replace}
+use Rattle.plan_core.specs.declared.offer.Offer.TheVariants.{Replace, Tighten, Rebuild}
 use Rattle.script_text.specs.declared.script.Script.{Script}
 use Rattle.script_text.specs.Lines.{worded, is_name, in_parens, is_number, number_of}
-use Rattle.script_text.specs.Plain.{plain}
+use Rattle.script_text.specs.SpellsNodes.{IsId, ArePairs, SpellsNode, SpellsNodes}
 use Rattle.script_text.specs.Names.{place_of, is_declared}
 
 -- an action as it is written, its cost as digits
@@ -20,33 +22,39 @@ pub record Listed : Type 0 where
   pub add : List (List ℕ)
   pub del : List (List ℕ)
 
--- a step as it is written, its id as digits
-pub record Carried : Type 0 where
-  pub id : List ℕ
-  pub name : List ℕ
-
--- a replacement as it is written
+-- a replacement as it is written, its kids as words
 pub record Replacement : Type 0 where
   pub block : List ℕ
   pub lean : Lean
-  pub kids : List Carried
+  pub kids : List (List ℕ)
   pub names : List (List ℕ)
 
--- a script as it is written, with names
+-- an offer as it is written: a replacement, the block and the two sides of a tightening, or the pairs of a rebuild
+pub data Offered : Type 0 where
+  replacement : Replacement → Offered
+  tightening : (block : List ℕ) (left right : List (List ℕ)) → Offered
+  rebuild : (pairs : List (List ℕ)) → Offered
+
+-- a script as it is written, with names, and the start tree as words
 pub record Source : Type 0 where
   pub facts : List (List ℕ)
   pub actions : List Listed
   pub init : List (List ℕ)
   pub goal : List (List ℕ)
   pub plan : List (List ℕ)
+  pub start : Option (List (List ℕ))
   pub stop : Option (List ℕ)
-  pub replacements : List Replacement
+  pub offers : List Offered
 
 abbrev pub fact_line : List ℕ → List (List ℕ)
 fact_line name = codes "fact" ∷ in_parens name ∷ []
 
 abbrev pub action_line : Listed → List (List ℕ)
 action_line a = codes "action" ∷ in_parens a.name ∷ a.cost ∷ codes "pre" ∷ (map in_parens a.pre ++ codes "add" ∷ (map in_parens a.add ++ codes "del" ∷ map in_parens a.del))
+
+abbrev pub start_lines : Option (List (List ℕ)) → List (List (List ℕ))
+start_lines None = []
+start_lines (Some words) = (codes "start" ∷ words) ∷ []
 
 abbrev pub stop_lines : Option (List ℕ) → List (List (List ℕ))
 stop_lines None = []
@@ -56,15 +64,17 @@ abbrev pub lean_word : Lean → List ℕ
 lean_word leans.Early = codes "early"
 lean_word leans.Late = codes "late"
 
-abbrev pub step_word : Carried → List ℕ
-step_word k = k.id ++ 58 ∷ in_parens k.name
-
 abbrev pub replace_line : Replacement → List (List ℕ)
-replace_line r = codes "replace" ∷ r.block ∷ lean_word r.lean ∷ (map step_word r.kids ++ codes "with" ∷ map in_parens r.names)
+replace_line r = codes "replace" ∷ r.block ∷ lean_word r.lean ∷ (r.kids ++ codes "with" ∷ map in_parens r.names)
+
+abbrev pub offer_line : Offered → List (List ℕ)
+offer_line (replacement r) = replace_line r
+offer_line (tightening block left right) = codes "tighten" ∷ block ∷ codes "left" ∷ (left ++ codes "right" ∷ right)
+offer_line (rebuild pairs) = codes "rebuild" ∷ pairs
 
 -- the words of each line
 abbrev pub spelling : Source → List (List (List ℕ))
-spelling s = (codes "bdpo-script" ∷ codes "1" ∷ []) ∷ (map fact_line s.facts ++ (map action_line s.actions ++ (codes "init" ∷ map in_parens s.init) ∷ (codes "goal" ∷ map in_parens s.goal) ∷ (codes "plan" ∷ map in_parens s.plan) ∷ (stop_lines s.stop ++ (map replace_line s.replacements ++ (codes "end" ∷ []) ∷ []))))
+spelling s = (codes "bdpo-script" ∷ codes "1" ∷ []) ∷ (map fact_line s.facts ++ (map action_line s.actions ++ (codes "init" ∷ map in_parens s.init) ∷ (codes "goal" ∷ map in_parens s.goal) ∷ (codes "plan" ∷ map in_parens s.plan) ∷ (start_lines s.start ++ (stop_lines s.stop ++ (map offer_line s.offers ++ (codes "end" ∷ []) ∷ [])))))
 
 -- Each is a name, and none of those before it.
 abbrev pub AreNew : List (List ℕ) → List (List ℕ) → Type 0
@@ -110,38 +120,63 @@ abbrev pub IsStop : Option (List ℕ) → ℕ → Type 0
 IsStop None stop = stop ≡ 1_000_000
 IsStop (Some digits) stop = (is_number digits ≡ true) × (0 < number_of digits) × (number_of digits ≤ 1_000_000) × (stop ≡ number_of digits)
 
--- digits of at most 4,294,967,295
-abbrev pub IsId : List ℕ → Type 0
-IsId digits = (is_number digits ≡ true) × (number_of digits ≤ 4_294_967_295)
+-- the start tree that is written, if one is: it is well formed, of at most 64 levels, and lists the plan
+pub record IsRoot (declared : List (List ℕ)) (plan : List ℕ) (words : List (List ℕ)) (root : Node) : Type 0 where
+  pub spelled : SpellsNode declared 64 words root
+  pub formed : first_misfit root ≡ None
+  pub lists : listed_of root ≡ plan
 
--- the step that is written
-pub record IsStep (declared : List (List ℕ)) (carried : Carried) (node : Node) : Type 0 where
-  pub action : ℕ
-  pub id : IsId carried.id
-  pub named : is_name carried.name ≡ true
-  pub known : place_of carried.name declared ≡ Some action
-  pub whole : node ≡ Step (number_of carried.id) action
+abbrev pub IsStart : List (List ℕ) → List ℕ → Option (List (List ℕ)) → Option Node → Type 0
+IsStart declared plan None None = Unit {0}
+IsStart declared plan None (Some root) = ⊥
+IsStart declared plan (Some words) None = ⊥
+IsStart declared plan (Some words) (Some root) = IsRoot declared plan words root
 
-abbrev pub AreSteps : List (List ℕ) → List Carried → List Node → Type 0
-AreSteps declared [] [] = Unit {0}
-AreSteps declared [] (n ∷ nodes) = ⊥
-AreSteps declared (k ∷ carried) [] = ⊥
-AreSteps declared (k ∷ carried) (n ∷ nodes) = IsStep declared k n × AreSteps declared carried nodes
+-- the number of the start tree's line, behind those of the facts, the actions, the sets and the plan; 0 where there is none
+abbrev pub start_line_of : Source → ℕ
+start_line_of s = elim (s.start) [ None ↦ 0 | Some words ↦ length s.facts + length s.actions + 5 ]
 
 -- the replacement that is written
 pub record IsReplacement (declared : List (List ℕ)) (replacement : Replacement) (offer : Offer) : Type 0 where
   pub kids : List Node
   pub actions : List ℕ
   pub block : IsId replacement.block
-  pub carried : AreSteps declared replacement.kids kids
+  pub carried : SpellsNodes declared 64 replacement.kids kids
   pub list : ArePlaces declared replacement.names actions
   pub whole : offer ≡ Replace (record { block = number_of replacement.block; kids = kids; lean = replacement.lean }) actions
 
-abbrev pub AreReplacements : List (List ℕ) → List Replacement → List Offer → Type 0
-AreReplacements declared [] [] = Unit {0}
-AreReplacements declared [] (o ∷ offers) = ⊥
-AreReplacements declared (r ∷ replacements) [] = ⊥
-AreReplacements declared (r ∷ replacements) (o ∷ offers) = IsReplacement declared r o × AreReplacements declared replacements offers
+-- the ids that are written
+abbrev pub AreIds : List (List ℕ) → List ℕ → Type 0
+AreIds [] [] = Unit {0}
+AreIds [] (n ∷ ids) = ⊥
+AreIds (w ∷ words) [] = ⊥
+AreIds (w ∷ words) (n ∷ ids) = IsId w × (n ≡ number_of w) × AreIds words ids
+
+-- the tightening that is written
+pub record IsTightening (block : List ℕ) (left right : List (List ℕ)) (offer : Offer) : Type 0 where
+  pub left_ids : List ℕ
+  pub right_ids : List ℕ
+  pub block_id : IsId block
+  pub are_left : AreIds left left_ids
+  pub are_right : AreIds right right_ids
+  pub whole : offer ≡ Tighten (number_of block) left_ids right_ids
+
+-- the rebuild that is written
+pub record IsRebuild (words : List (List ℕ)) (offer : Offer) : Type 0 where
+  pub pairs : List (ℕ × ℕ)
+  pub are : ArePairs words pairs
+  pub whole : offer ≡ Rebuild pairs
+
+abbrev pub IsOffer : List (List ℕ) → Offered → Offer → Type 0
+IsOffer declared (replacement r) offer = IsReplacement declared r offer
+IsOffer declared (tightening block left right) offer = IsTightening block left right offer
+IsOffer declared (rebuild pairs) offer = IsRebuild pairs offer
+
+abbrev pub AreOffers : List (List ℕ) → List Offered → List Offer → Type 0
+AreOffers declared [] [] = Unit {0}
+AreOffers declared [] (o ∷ offers) = ⊥
+AreOffers declared (w ∷ written) [] = ⊥
+AreOffers declared (w ∷ written) (o ∷ offers) = IsOffer declared w o × AreOffers declared written offers
 
 -- the text, as lines of words, is the source's, and the script has its names' places
 pub record SpellsScript (text : List ℕ) (script : Script) : Type 0 where
@@ -154,6 +189,7 @@ pub record SpellsScript (text : List ℕ) (script : Script) : Type 0 where
   pub init : IsSetOf source.facts source.init script.task.init
   pub goal : IsSetOf source.facts source.goal script.task.goal
   pub plan : ArePlaces (names_of source.actions) source.plan script.plan
+  pub start : IsStart (names_of source.actions) script.plan source.start script.start
+  pub start_line : script.start_line ≡ start_line_of source
   pub stop : IsStop source.stop script.stop
-  pub offers : AreReplacements (names_of source.actions) source.replacements script.offers
-  pub others : script ≡ plain script.task script.plan script.stop script.offers
+  pub offers : AreOffers (names_of source.actions) source.offers script.offers

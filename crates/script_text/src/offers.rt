@@ -1,76 +1,68 @@
-ghost use Rattle.std.specs.Prelude.{◌≡◌, [], length};
+ghost use Rattle.std.specs.Cmp.Lexicographic.{pointwise};
+ghost use Rattle.std.specs.Prelude.{◌≡◌, ◌<◌, ◌^◌, [], length, nat_eq, IfOk};
+ghost use Rattle.bd_tree.specs.Tree.{listed_of, nodes_of};
 ghost use Rattle.script_text.specs.Lines.{words};
-ghost use Rattle.script_text.specs.Reading.{Gives, Fails, behind_id, id_at, step_at, kids_until, lean_at, replace_at, later};
+ghost use Rattle.script_text.specs.Reading.{Gives};
+ghost use Rattle.script_text.specs.Whole.{ids_at, ids_until, lean_at, offer_at, pairs_at, rebuild_at, replace_at, start_at, tighten_at, well_formed_at};
 
 use crate::names::Names;
-use crate::readers::{known_at, list_at, number_at, shape, word_at};
-use crate::words::{is_same, mark_at, next_word};
-use bd_base::{ActionId, Cause, FromItems, Items, NodeId, TextErr};
+use crate::nodes::{id_at, kids_until, misfit, pair_at, root_at};
+use crate::readers::{key_at, list_at, shape, word_at};
+use crate::words::{after_key, is_same, next_word};
+use bd_base::{ActionId, FromItems, IdList, Items, NoMemory, NodeId, PairList, TextErr};
 use bd_merge::{Lean, Window};
-use bd_tree::Node;
+use bd_tree::{Misfit, Node, Tree};
 use plan_core::Offer;
 use std::alloc::Global;
 
-/// What the line asks for is not read yet.
-pub fn later(place: u32) -> TextErr
-    ensures { result ≡ later place }
+/// The tree that the plan starts from, as the one node of the line.
+#[tactic(auto, unfolding(crate::specs::Whole::start_at))]
+pub fn start_at(
+    alloc: Global,
+    names: &Names,
+    plan: &[ActionId],
+    place: u32,
+    line: &[u8],
+) -> Result<Tree, TextErr>
+    requires { length (words line.now) < 2 ^ 32 }
+    ensures { Gives (λ t. t) result (start_at names.now plan.now place (words line.now)) }
 {
-    TextErr::At {
-        place,
-        cause: Cause::Later,
+    let root = root_at(alloc, names, place, line)?;
+    let tree = well_formed_at(alloc, place, root)?;
+    if !lists(alloc, &tree, plan)? {
+        return Err(misfit(place));
     }
+    Ok(tree)
 }
 
-fn behind_id(place: u32, rest: &[u8]) -> Result<&[u8], TextErr>
-    ensures { Gives (λ s. s.now) result (behind_id place rest.now) }
+// The tree with this root.
+fn well_formed_at(alloc: Global, place: u32, root: Node) -> Result<Tree, TextErr>
+    requires { nodes_of root < 2 ^ 32 }
+    ensures { Gives (λ t. t) result (well_formed_at place root) }
 {
-    match rest.split_first() {
-        None => Err(shape(place)),
-        Some((mark, name)) => {
-            if *mark == b':' {
-                Ok(name)
+    match Tree::new(alloc, root) {
+        Ok(tree) => Ok(tree),
+        Err(why) => {
+            if why == Misfit::NoMemory {
+                Err(TextErr::NoMemory)
             } else {
-                Err(later(place))
+                Err(misfit(place))
             }
         }
     }
 }
 
-fn id_at(alloc: Global, place: u32, word: &[u8]) -> Result<NodeId, TextErr>
-    ensures { Gives (λ n. n) result (id_at place word.now) }
+fn is_same_list(list: &[ActionId], other: &[ActionId]) -> bool
+    ensures { result ≡ pointwise nat_eq list.now other.now }
 {
-    Ok(NodeId(number_at(alloc, 4_294_967_295, place, word)?))
+    list == other
 }
 
-#[tactic(auto, unfolding(crate::specs::Reading::step_at))]
-fn step_at(alloc: Global, names: &Names, place: u32, word: &[u8]) -> Result<Node, TextErr>
-    ensures { Gives (λ n. n) result (step_at names.now place word.now) }
+// Whether the tree's listed linearisation is the plan.
+fn lists(alloc: Global, tree: &Tree, plan: &[ActionId]) -> Result<bool, NoMemory>
+    ensures { IfOk result (λ same. same ≡ pointwise nat_eq (listed_of tree.now) plan.now) }
 {
-    let (digits, rest) = word.split_at(mark_at(word));
-    let id = id_at(alloc, place, digits)?;
-    let name = behind_id(place, rest)?;
-    let action = ActionId(known_at(alloc, names, place, name)?);
-    Ok(Node::Step { id, action })
-}
-
-fn kids_until<'a>(
-    alloc: Global,
-    names: &Names,
-    place: u32,
-    line: &'a [u8],
-) -> Result<(Vec<Node>, &'a [u8]), TextErr>
-    ensures { Gives (λ p. (p.0.items, words p.1.now)) result (kids_until names.now place [] (words line.now)) }
-{
-    let mut kids = Vec::new(alloc);
-    let mut rest = line;
-    while let Some((word, after)) = next_word(rest) {
-        if is_same(word, b"with") {
-            return Ok((kids, after));
-        }
-        kids.push(step_at(alloc, names, place, word)?)?;
-        rest = after;
-    }
-    Err(shape(place))
+    Ok(is_same_list(tree.listed(alloc)?.as_slice(), plan))
 }
 
 fn lean_at(place: u32, word: &[u8]) -> Result<Lean, TextErr>
@@ -85,8 +77,8 @@ fn lean_at(place: u32, word: &[u8]) -> Result<Lean, TextErr>
     Err(shape(place))
 }
 
-#[tactic(auto, unfolding(crate::specs::Reading::replace_at))]
-pub fn replace_at(alloc: Global, names: &Names, place: u32, line: &[u8]) -> Result<Offer, TextErr>
+#[tactic(auto, unfolding(crate::specs::Whole::replace_at))]
+fn replace_at(alloc: Global, names: &Names, place: u32, line: &[u8]) -> Result<Offer, TextErr>
     ensures { Gives (λ o. o) result (replace_at names.now place (words line.now)) }
 {
     let (word, rest) = word_at(place, line)?;
@@ -98,4 +90,93 @@ pub fn replace_at(alloc: Global, names: &Names, place: u32, line: &[u8]) -> Resu
     let kids = Items::of(kids);
     let window = Window { block, kids, lean };
     Ok(Offer::Replace { window, actions })
+}
+
+// The ids up to a key, and what follows it.
+fn ids_until<'a>(
+    alloc: Global,
+    place: u32,
+    key: &[u8],
+    line: &'a [u8],
+) -> Result<(Vec<NodeId>, &'a [u8]), TextErr>
+    ensures { Gives (λ p. (p.0.items, words p.1.now)) result (ids_until place key.now [] (words line.now)) }
+{
+    let mut ids = Vec::new(alloc);
+    let mut rest = line;
+    while let Some((word, after)) = next_word(rest) {
+        if is_same(word, key) {
+            return Ok((ids, after));
+        }
+        ids.push(id_at(alloc, place, word)?)?;
+        rest = after;
+    }
+    Err(shape(place))
+}
+
+// The ids that follow.
+fn ids_at(alloc: Global, place: u32, line: &[u8]) -> Result<IdList, TextErr>
+    ensures { Gives (λ s. s) result (ids_at place [] (words line.now)) }
+{
+    let mut ids = Vec::new(alloc);
+    let mut rest = line;
+    while let Some((word, after)) = next_word(rest) {
+        ids.push(id_at(alloc, place, word)?)?;
+        rest = after;
+    }
+    Ok(Items::of(ids))
+}
+
+#[tactic(auto, unfolding(crate::specs::Whole::tighten_at))]
+fn tighten_at(alloc: Global, place: u32, line: &[u8]) -> Result<Offer, TextErr>
+    ensures { Gives (λ o. o) result (tighten_at place (words line.now)) }
+{
+    let (word, rest) = word_at(place, line)?;
+    let block = id_at(alloc, place, word)?;
+    let rest = key_at(place, b"left", rest)?;
+    let (left, rest) = ids_until(alloc, place, b"right", rest)?;
+    let right = ids_at(alloc, place, rest)?;
+    let left = Items::of(left);
+    Ok(Offer::Tighten { block, left, right })
+}
+
+// The pairs that follow.
+fn pairs_at(alloc: Global, place: u32, line: &[u8]) -> Result<Vec<(u32, u32)>, TextErr>
+    ensures { Gives (λ v. v.items) result (pairs_at place [] (words line.now)) }
+{
+    let mut pairs = Vec::new(alloc);
+    let mut rest = line;
+    while let Some((word, after)) = next_word(rest) {
+        pairs.push(pair_at(alloc, place, word)?)?;
+        rest = after;
+    }
+    Ok(pairs)
+}
+
+fn rebuild_at(alloc: Global, place: u32, line: &[u8]) -> Result<Offer, TextErr>
+    ensures { Gives (λ o. o) result (rebuild_at place (words line.now)) }
+{
+    let pairs = pairs_at(alloc, place, line)?;
+    let order = PairList::of(alloc, &pairs)?;
+    Ok(Offer::Rebuild { order })
+}
+
+/// The offer that a line is, if it is one.
+pub fn offer_at(
+    alloc: Global,
+    names: &Names,
+    place: u32,
+    line: &[u8],
+) -> Result<Option<Offer>, TextErr>
+    ensures { Gives (λ o. o) result (offer_at names.now place (words line.now)) }
+{
+    if let Some(rest) = after_key(line, b"replace") {
+        return Ok(Some(replace_at(alloc, names, place, rest)?));
+    }
+    if let Some(rest) = after_key(line, b"tighten") {
+        return Ok(Some(tighten_at(alloc, place, rest)?));
+    }
+    if let Some(rest) = after_key(line, b"rebuild") {
+        return Ok(Some(rebuild_at(alloc, place, rest)?));
+    }
+    Ok(None)
 }

@@ -1,23 +1,25 @@
 ghost use Rattle.std.specs.Prelude.{◌≡◌, ◌<◌, ◌≤◌, ◌^◌, ◌+◌, ◌∷◌, ◌++◌, [], length, IfOk, All, codes, List, map, ℕ};
 ghost use Rattle.script_text.specs.Lines.{words, worded};
-ghost use Rattle.script_text.specs.Left.{left, task_of, script_of};
-ghost use Rattle.script_text.specs.Reading.{Gives, Fails, facts_at, actions_at, line_at, head_at, set_line, plan_line, not_yet, stop_line, offers_at, tail_at, rest_at, no_more, script_at};
+ghost use Rattle.script_text.specs.Left.{left, rest_of, task_of, script_of};
+ghost use Rattle.script_text.specs.Reading.{Gives, Fails, facts_at, actions_at, line_at, head_at, set_line, plan_line, stop_line, no_more};
+ghost use Rattle.script_text.specs.Whole.{offers_at, tail_at, start_line, rest_at, script_at};
 ghost use Rattle.script_text.specs.Limits.{over_of, Answers, Spelled};
 ghost use Rattle.script_text.specs.Spells.{SpellsScript};
 ghost use Rattle.script_text.specs.declared.script.Script.{Script};
 ghost use Rattle.script_text.specs.Spells.{AreNew};
-ghost use Rattle.script_text.specs.Range.{HasActionsBelow};
+ghost use Rattle.script_text.specs.Range.{HasActionsBelow, StartsBy};
 ghost use Rattle.bd_task.specs.TaskView.{IsTask};
 ghost use Rattle.plan_core.specs.Replies.{IsLent};
 
 use crate::lines::{Lines, first_line};
 use crate::names::Names;
-use crate::offers::{later, replace_at};
+use crate::offers::{offer_at, start_at};
 use crate::readers::{action_at, end_at, fact_at, key_at, list_at, set_at, shape, stop_at};
 use crate::script::Script;
 use crate::words::after_key;
-use bd_base::{ActList, FactSet, FromItems, Items, Limit, NoMemory, TextErr};
+use bd_base::{ActList, ActionId, FactSet, FromItems, Items, Limit, NoMemory, TextErr};
 use bd_task::{Action, Task};
+use bd_tree::Tree;
 use plan_core::Offer;
 use std::alloc::Global;
 
@@ -123,18 +125,6 @@ fn no_more(at: Lines) -> Result<(), TextErr>
     }
 }
 
-fn not_yet(key: &[u8], at: Lines) -> Result<(), TextErr>
-    ensures { Gives (λ _. tt) result (not_yet key.now (left at.entry)) }
-{
-    match at.next() {
-        None => Ok(()),
-        Some((line, _)) => match after_key(line, key) {
-            None => Ok(()),
-            Some(_) => Err(later(at.number)),
-        },
-    }
-}
-
 fn stop_line(alloc: Global, at: Lines<'_>) -> Result<(u32, Lines<'_>), TextErr>
     ensures { Gives (λ p. (p.0, left p.1)) result (stop_line (left at.entry)) }
 {
@@ -157,35 +147,68 @@ fn offers_at<'a>(
     let mut offers = Vec::new(alloc);
     let mut at = start;
     while let Some((line, after)) = at.next() {
-        match after_key(line, b"replace") {
+        match offer_at(alloc, names, at.number, line)? {
             None => return Ok((offers, at)),
-            Some(rest) => offers.push(replace_at(alloc, names, at.number, rest)?)?,
+            Some(offer) => offers.push(offer)?,
         }
         at = after;
     }
     Ok((offers, at))
 }
 
-#[tactic(auto, unfolding(crate::specs::Reading::tail_at))]
+#[tactic(auto, unfolding(crate::specs::Whole::tail_at))]
 fn tail_at(at: Lines) -> Result<(), TextErr>
     ensures { Gives (λ _. tt) result (tail_at (left at.entry)) }
 {
-    not_yet(b"tighten", at)?;
-    not_yet(b"rebuild", at)?;
     let (line, after) = line_at(b"end", at)?;
     end_at(at.number, line)?;
     no_more(after)
 }
 
-#[tactic(auto, unfolding(crate::specs::Reading::rest_at))]
-fn rest_at(alloc: Global, names: &Names, at: Lines) -> Result<(u32, Vec<Offer>), TextErr>
-    ensures { Gives (λ p. (p.0, p.1.items)) result (rest_at names.now (left at.entry)) }
+// The start tree with the number of its line, where there is one.
+fn start_line<'a>(
+    alloc: Global,
+    names: &Names,
+    plan: &[ActionId],
+    at: Lines<'a>,
+) -> Result<((Option<Tree>, u32), Lines<'a>), TextErr>
+    ensures { Gives (λ p. ((p.0.0, p.0.1), left p.1)) result (start_line names.now plan.now (left at.entry)) }
 {
-    not_yet(b"start", at)?;
+    match at.next() {
+        None => Ok(((None, 0), at)),
+        Some((line, after)) => match after_key(line, b"start") {
+            None => Ok(((None, 0), at)),
+            Some(rest) => {
+                let tree = start_at(alloc, names, plan, at.number, rest)?;
+                Ok(((Some(tree), at.number), after))
+            }
+        },
+    }
+}
+
+/// What stands behind the plan.
+#[derive(Drop)]
+struct After {
+    start: Option<Tree>,
+    start_line: u32,
+    stop: u32,
+    offers: Vec<Offer>,
+}
+
+#[tactic(auto, unfolding(crate::specs::Whole::rest_at))]
+fn rest_at(alloc: Global, names: &Names, plan: &[ActionId], at: Lines) -> Result<After, TextErr>
+    ensures { Gives rest_of result (rest_at names.now plan.now (left at.entry)) }
+{
+    let ((start, start_line), at) = start_line(alloc, names, plan, at)?;
     let (stop, at) = stop_line(alloc, at)?;
     let (offers, at) = offers_at(alloc, names, at)?;
     tail_at(at)?;
-    Ok((stop, offers))
+    Ok(After {
+        start,
+        start_line,
+        stop,
+        offers,
+    })
 }
 
 /// What a script says, before its counts are judged.
@@ -196,11 +219,10 @@ struct Parts<'a> {
     init: FactSet,
     goal: FactSet,
     plan: ActList,
-    stop: u32,
-    offers: Vec<Offer>,
+    after: After,
 }
 
-#[tactic(auto, unfolding(crate::specs::Reading::script_at))]
+#[tactic(auto, unfolding(crate::specs::Whole::script_at))]
 fn script_at<'a>(alloc: Global, text: &'a [u8]) -> Result<Parts<'a>, TextErr>
     requires { length text.now < 2 ^ 32 }
     ensures { Gives script_of result (script_at (worded text.now)) }
@@ -211,7 +233,7 @@ fn script_at<'a>(alloc: Global, text: &'a [u8]) -> Result<Parts<'a>, TextErr>
     let (init, at) = set_line(alloc, b"init", &facts, at)?;
     let (goal, at) = set_line(alloc, b"goal", &facts, at)?;
     let (plan, at) = plan_line(alloc, &found.names, at)?;
-    let (stop, offers) = rest_at(alloc, &found.names, at)?;
+    let after = rest_at(alloc, &found.names, plan.as_slice(), at)?;
     let Actions { actions, names: _ } = found;
     Ok(Parts {
         facts,
@@ -219,8 +241,7 @@ fn script_at<'a>(alloc: Global, text: &'a [u8]) -> Result<Parts<'a>, TextErr>
         init,
         goal,
         plan,
-        stop,
-        offers,
+        after,
     })
 }
 
@@ -237,7 +258,7 @@ fn first_over(parts: &Parts) -> Option<(Limit, u64)>
     if parts.plan.len() > 2_000 {
         return Some((Limit::Steps, 2_001));
     }
-    if parts.offers.len() > 1_000_000 {
+    if parts.after.offers.len() > 1_000_000 {
         return Some((Limit::Offers, 1_000_001));
     }
     None
@@ -251,10 +272,10 @@ fn script_from(alloc: Global, parts: Parts) -> Result<Script, NoMemory>
     Ok(Script {
         task: Task::new(names, parts.actions, parts.init, parts.goal),
         plan: parts.plan,
-        start: None,
-        start_line: 0,
-        stop: parts.stop,
-        offers: Items::of(parts.offers),
+        start: parts.after.start,
+        start_line: parts.after.start_line,
+        stop: parts.after.stop,
+        offers: Items::of(parts.after.offers),
     })
 }
 
@@ -281,6 +302,7 @@ pub fn read_script(alloc: Global, text: &[u8]) -> Result<Script, TextErr>
     ensures in_range { IfOk result (λ s. All (λ a. a < length s.task.actions) s.plan) }
     ensures few { IfOk result (λ s. length s.plan ≤ 2_000) }
     ensures stops { IfOk result (λ s. (0 < s.stop) × (s.stop ≤ 1_000_000)) }
+    ensures start { IfOk result (λ s. StartsBy (length s.task.actions) (length text.now) s.plan s.start) }
     ensures offers_in_range { IfOk result (λ s. All (λ o. HasActionsBelow (length s.task.actions) o) s.offers) }
     ensures few_offers { IfOk result (λ s. length s.offers ≤ 1_000_000) }
     ensures offers_lent { IfOk result (λ s. All IsLent s.offers) }

@@ -6,7 +6,7 @@ use plan_core::Offer;
 use std::alloc::Global;
 use std::test::Fail;
 
-fn read(alloc: Global, text: &[u8]) -> Result<Script, TextErr> {
+pub fn read(alloc: Global, text: &[u8]) -> Result<Script, TextErr> {
     if text.len() < 100_000_000 {
         read_script(alloc, text)
     } else {
@@ -20,18 +20,6 @@ fn is_shape(alloc: Global, text: &str, line: u32) -> bool {
             TextErr::At {
                 place,
                 cause: Cause::Shape,
-            },
-        ) => place == line,
-        _ => false,
-    }
-}
-
-fn is_later(alloc: Global, text: &str, line: u32) -> bool {
-    match read(alloc, text.as_bytes()) {
-        Err(
-            TextErr::At {
-                place,
-                cause: Cause::Later,
             },
         ) => place == line,
         _ => false,
@@ -240,7 +228,7 @@ fn names_are_looked_up_in_order(rt: HostRuntime) {
 }
 
 #[test]
-fn costs_and_later_lines_are_judged(rt: HostRuntime) {
+fn costs_and_keys_are_judged(rt: HostRuntime) {
     for (text, line, word) in [
         (
             "bdpo-script 1\naction (x) 1000000001 pre add del\n",
@@ -262,24 +250,15 @@ fn costs_and_later_lines_are_judged(rt: HostRuntime) {
         assert!(rt; is_bad_number(rt.alloc(), text, line, word), "line {line}");
     }
     for (text, line) in [
-        ("bdpo-script 1\ninit\ngoal\nplan\nstart 0{ | }\nend\n", 5),
-        (
-            "bdpo-script 1\ninit\ngoal\nplan\ntighten 0 left 1 right\nend\n",
-            5,
-        ),
-        (
-            "bdpo-script 1\nfact (a)\ninit\ngoal\nplan\nrebuild\nend\n",
-            6,
-        ),
-        ("bdpo-script 1\ninit\ngoal\nplan\n  start 0 (\n", 5),
-        ("bdpo-script 1\ninit\ngoal\nplan\nstart", 5),
-    ] {
-        assert!(rt; is_later(rt.alloc(), text, line), "line {line}");
-    }
-    for (text, line) in [
         ("bdpo-script 1\nstop 5\ninit\ngoal\nplan\nend\n", 2),
         ("bdpo-script 1\ninit\ngoal\nreplace\nplan\nend\n", 4),
         ("bdpo-script 1\ninit\ngoal\nplan\nstarts\nend\n", 5),
+        ("bdpo-script 1\nstart 0{ | }\ninit\ngoal\nplan\nend\n", 2),
+        (
+            "bdpo-script 1\ninit\ngoal\ntighten 0 left right\nplan\nend\n",
+            4,
+        ),
+        ("bdpo-script 1\ninit\ngoal\nplan\nend\nrebuild\n", 6),
         ("bdpo-script 1\ninit\ngoal\nplan\nSTOP 5\nend\n", 5),
         ("bdpo-script 1\ninit\ngoal\nplan\n(stop)\nend\n", 5),
         ("bdpo-script 1\ninit\ngoal\nplan\n\nstop 5\nend\n", 5),
@@ -413,7 +392,7 @@ fn facts_are_limited(rt: HostRuntime) -> Result<(), Fail> {
 }
 
 /// What is read where so much follows the line of the plan, which is line 6.
-fn read_behind(alloc: Global, tail: &str) -> Result<Script, TextErr> {
+pub fn read_behind(alloc: Global, tail: &str) -> Result<Script, TextErr> {
     let mut text = Vec::new(alloc);
     text.extend_from_slice(
         b"bdpo-script 1\naction (x) 1 pre add del\naction (a b) 2 pre add del\ninit\ngoal\nplan (x)\n",
@@ -422,8 +401,8 @@ fn read_behind(alloc: Global, tail: &str) -> Result<Script, TextErr> {
     read(alloc, &text)
 }
 
-/// Whether such a text is refused at the line, for a cause without a word.
-fn is_behind(alloc: Global, tail: &str, line: u32, is_shape: bool) -> bool {
+/// Whether such a text is refused at the line, for its shape or for a misfit.
+pub fn is_behind(alloc: Global, tail: &str, line: u32, is_shape: bool) -> bool {
     match read_behind(alloc, tail) {
         Err(
             TextErr::At {
@@ -434,7 +413,7 @@ fn is_behind(alloc: Global, tail: &str, line: u32, is_shape: bool) -> bool {
         Err(
             TextErr::At {
                 place,
-                cause: Cause::Later,
+                cause: Cause::Misfit,
             },
         ) => !is_shape && place == line,
         _ => false,
@@ -442,7 +421,7 @@ fn is_behind(alloc: Global, tail: &str, line: u32, is_shape: bool) -> bool {
 }
 
 /// Whether such a text is refused at the line, for a name or a number that is told.
-fn is_told(alloc: Global, tail: &str, line: u32, word: &str, is_number: bool) -> bool {
+pub fn is_told(alloc: Global, tail: &str, line: u32, word: &str, is_number: bool) -> bool {
     match read_behind(alloc, tail) {
         Err(
             TextErr::At {
@@ -594,27 +573,6 @@ fn the_form_of_nodes_is_judged(rt: HostRuntime) {
     }
 }
 
-#[test]
-fn later_offers_and_nodes_are_told(rt: HostRuntime) {
-    for (tail, line) in [
-        ("start\n", 7),
-        ("start 0{ | }\nend\n", 7),
-        ("tighten 0 left 1 right\nend\n", 7),
-        ("tighten\nstop 5\nend\n", 7),
-        ("rebuild\n", 7),
-        ("stop 5\nrebuild 0<1\nend\n", 8),
-        ("replace 0 early with\ntighten (\n", 8),
-        ("stop 5\nreplace 0 early with (x)\nrebuild", 9),
-        ("replace 0 early 3{ | } with\nend\n", 7),
-        ("replace 0 early 1:(x) 3{x\n", 7),
-        ("replace 0 early 3{ 7:(zzz) with\nend\n", 7),
-        ("replace 0 early 3{:(x)\n", 7),
-        ("stop 9\nreplace 0 late 4294967295{\r\n", 8),
-    ] {
-        assert!(rt; is_behind(rt.alloc(), tail, line, false), "{tail}");
-    }
-}
-
 fn is_step(node: &Node, step: &(u64, u32)) -> bool {
     match node {
         Node::Step { id, action } => id.0 == step.0 && action.0 == step.1,
@@ -646,6 +604,8 @@ fn is_offer(
                 && actions.len() == list.len()
                 && actions.as_slice().iter().zip(list).all(|(a, i)| a.0 == *i)
         }
+        Some(Offer::Tighten { .. }) => false,
+        Some(Offer::Rebuild { .. }) => false,
     }
 }
 

@@ -1,5 +1,10 @@
+use Rattle.bd_top.proofs.NamedLemmas.{named}
 use Rattle.bd_top.proofs.UnreadLemmas.{missing_told, failed_told}
 use Rattle.bd_top.proofs.prepare.prepare_named.Goals as goal
+
+pub returns-in-Ok-clause-prepared : goal.returns-in-Ok-clause-prepared
+returns-in-Ok-clause-prepared g c =
+    named (g.H.Shelf.tells c.args.shelf.now c.args.name.now) _ c.in-Ok.text c.deref.result.now c.deref.ensures.value c.in-Ok.ensures.given c.args.name.now c.prepare_text.result c.prepare_text.ensures
 
 pub returns-in-Err-Missing-clause-prepared : goal.returns-in-Err-Missing-clause-prepared
 returns-in-Err-Missing-clause-prepared g c =

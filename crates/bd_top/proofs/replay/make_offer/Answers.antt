@@ -7,12 +7,12 @@ use Rattle.bd_top.proofs.replay.make_offer.Goals as goal
 
 pub returns-in-Ok-clause-out : goal.returns-in-Ok-clause-out
 returns-in-Ok-clause-out g c =
-    follows_put _ _ _ _ c.put_better.result
-    (betters_more c.args.core.now c.offer.new.self c.args.offer.now c.in-Ok.place c.put_better.ensures.lawful c.in-Ok.ensures.reply c.in-Ok.ensures.ok)
-    c.put_better.ensures.put
+    follows_put _ _ _ _ c.put_entry.result
+    (betters_more c.args.core.now c.offer.new.self c.args.offer.now c.in-Ok.place c.put_entry.ensures.lawful c.in-Ok.ensures.reply c.in-Ok.ensures.ok)
+    c.put_entry.ensures.put
 
 pub returns-in-Ok-clause-notes : goal.returns-in-Ok-clause-notes
-returns-in-Ok-clause-notes g c = follows_none _ _ _ c.put_better.result (replies_same c.args.core.now.task c.args.replies.now.items _ _ c.push_within.ensures.items) refl
+returns-in-Ok-clause-notes g c = follows_none _ _ _ c.put_entry.result (replies_same c.args.core.now.task c.args.replies.now.items _ _ c.push_within.ensures.items) refl
 
 pub returns-in_default-clause-made : goal.returns-in_default-clause-made
 returns-in_default-clause-made g c =

@@ -1,6 +1,6 @@
 use Rattle.std.proofs.Common.{◌≡◌, [], length}
 use Rattle.script_text.specs.Lines.{worded}
-use Rattle.script_text.specs.Reading.{offers_at}
+use Rattle.script_text.specs.Whole.{offers_at}
 use Rattle.script_text.proofs.sections.offers_at.Given as goal
 
 abbrev pub invariant-loop-line : goal.invariant-loop-line

@@ -1,6 +1,6 @@
 use Rattle.std.proofs.Common.{◌∙◌, not, sym, arith}
 use Rattle.std.proofs.lemmas.List.Sums.{prefix_len-le-length}
-use Rattle.script_text.specs.Reading.{is_mark}
+use Rattle.script_text.specs.Nodes.{is_mark}
 use Rattle.script_text.proofs.LineLemmas.{position_found, position_missed}
 use Rattle.script_text.proofs.words.mark_at.Goals as goal
 

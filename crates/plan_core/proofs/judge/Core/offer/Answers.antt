@@ -1,20 +1,18 @@
-use Rattle.std.proofs.Common.{◌≡◌, [], ◌∷◌, ◌++◌, refl, sym, ap, ◌∙◌, subst}
-use Rattle.plan_core.specs.Core.{CoreView}
-use Rattle.plan_core.specs.Replies.{MayReplace, merged_in}
-use Rattle.plan_core.proofs.LawLemmas.{keeps_after, refused}
+use Rattle.std.proofs.Common.{◌≡◌, ◌+◌, [], ◌∷◌, ◌++◌, sym, ap, ◌∙◌, subst}
+use Rattle.plan_core.specs.Core.{CoreView, state_of, tree_after}
+use Rattle.plan_core.specs.Replies.{IsAcceptable}
+use Rattle.plan_core.proofs.LawLemmas.{keeps_after}
 use Rattle.plan_core.proofs.judge.Core.offer.Goals as goal
-
-pub returns-in_err-tree-clause-reply : goal.returns-in_err-tree-clause-reply
-returns-in_err-tree-clause-reply c = refused _ _ _ _ _ _ c.replacement.ensures c.from_residual.ensures.1 c.in_err-tree.ensures.judges
 
 pub invariant_of-self-2 : goal.invariant_of-self-2
 invariant_of-self-2 c =
-    let window = c.replacement.result.0.now in
-    let list = c.replacement.result.1.now in
-    let may : MayReplace c.args.self.now window list = c.in_ok-tree.ensures.judges.0 in
-    let tree : c.in_ok-tree.tree ≡ merged_in c.args.self.now window list = c.in_ok-tree.ensures.judges.1 in
-    keeps_after _ window list _ _ _ _ _ c.self.invariant
-    (subst (λ (v : CoreView). MayReplace v window list) (sym c.self.view_is) may)
-    (c.in_ok-push.ensures.items ∙ ap (λ o. c.self.inside.history.items ++ o ∷ []) (c.in_ok-try_copy.ensures ∙ c.replacement.ensures))
-    (subst (λ (v : CoreView). c.in_ok-tree.tree ≡ merged_in v window list) (sym c.self.view_is) tree)
-    refl
+    let offer = c.args.offer.now in
+    let may : IsAcceptable c.args.self.now offer = c.in_ok-tree.ensures.judges.0 in
+    let tree : c.in_ok-tree.tree ≡ tree_after offer (state_of c.args.self.now) = c.in_ok-tree.ensures.judges.1 in
+    keeps_after _ offer _ _ _ _ _ _ _ c.self.invariant
+    (subst (λ (v : CoreView). IsAcceptable v offer) (sym c.self.view_is) may)
+    (c.in_ok-push.ensures.items ∙ ap (λ o. c.self.inside.history.items ++ o ∷ []) c.in_ok-try_copy.ensures)
+    (subst (λ (v : CoreView). c.in_ok-tree.tree ≡ tree_after offer (state_of v)) (sym c.self.view_is) tree)
+    (ap (λ n. c.self.inside.next + n) c.new_ids.ensures)
+    (ap (λ n. c.self.inside.replaced + n) c.replaced.ensures)
+    c.leaves_due-self-inside.ensures
