@@ -1,11 +1,15 @@
 -- Rows of words as lists of pairs.
-use Rattle.std.proofs.Common.{◌≡◌, ℕ, zero, suc, ◌+◌, ◌-◌, ◌*◌, ◌<◌, ◌≤◌, Bool, true, false, cond, ◌&&◌, ◌||◌, eqb, ◌==◌, List, [], ◌∷◌, ◌++◌, length, get_or, take, drop, map, refl, sym, ap, ◌∙◌, subst, inl, inr, arith, append_assoc, length-append}
-use Rattle.std.specs.List.{filter, slice_range}
+use Rattle.std.proofs.Common.{◌≡◌, ℕ, zero, suc, ◌+◌, ◌-◌, ◌*◌, ◌<◌, ◌≤◌, Bool, true, false, cond, not, ◌&&◌, ◌||◌, eqb, ltb, ◌==◌, List, [], ◌∷◌, ◌++◌, length, get_or, take, drop, map, refl, sym, ap, ◌∙◌, subst, inl, inr, arith, add-one, append_assoc, drop-cons, length-append, length-take-le}
+use Rattle.std.specs.List.{count_by, filter, list_all, slice_range}
 use Rattle.std.proofs.lemmas.Bool.{eq-eqb, ne_eqb}
-use Rattle.std.proofs.lemmas.List.{take-append-le, drop-append-le}
+use Rattle.std.proofs.lemmas.List.{take-append-le, drop-append-le, length-map}
+use Rattle.std.proofs.lemmas.List.Elements.{filter-append}
+use Rattle.std.proofs.lemmas.List.Folds.{list_all-append}
+use Rattle.std.proofs.lemmas.List.Sums.{length-filter}
+use Rattle.std.proofs.lemmas.Grind.{take_at_read}
 use Rattle.bd_base.specs.Bits.{row_of, upto}
-use Rattle.bd_base.specs.Facts.{has}
-use Rattle.bd_base.specs.Pairs.{after_of, is_before, before_each}
+use Rattle.bd_base.specs.Facts.{has, remove_fact}
+use Rattle.bd_base.specs.Pairs.{after_of, is_before, before_each, have_rising_pairs, without_pair}
 use Rattle.bd_base.specs.Rows.{words_at, pairs_with, pairs_of, AreSpans}
 use Rattle.bd_base.specs.declared.rows.Span.{Span}
 
@@ -166,3 +170,61 @@ count_row words first spans span n m whole part =
 pub with_upto : (i a k : ℕ) → pairs_with i (upto a k) ≡ before_each i a k
 with_upto i a zero = refl
 with_upto i a (suc k) = ap (λ z. (i, a) ∷ z) (with_upto i (a + 1) k)
+
+-- how many positions one is before
+pub length-after : (order : List (ℕ × ℕ)) (i : ℕ) → length (after_of order i) ≡ count_by (λ p. p.0 == i) order
+length-after order i = length-map (filter (λ p. p.0 == i) order) (λ p. p.1) ∙ length-filter (λ p. p.0 == i) order
+
+-- one row less to look at
+pub pairs_of-split : (words : List ℕ) (first k : ℕ) (spans : List Span) (d : Span) → k < length spans
+    → pairs_of words (first + k) (drop k spans) ≡ pairs_with (first + k) (row_of 0 (words_at words (get_or spans k d))) ++ pairs_of words (first + (k + 1)) (drop (k + 1) spans)
+pairs_of-split words first k spans d lt =
+    let next : first + k + 1 ≡ first + (k + 1) = omega arith in
+    let split : drop k spans ≡ get_or spans k d ∷ drop (k + 1) spans = rw add-one (drop-cons spans k d lt) in
+    ap (pairs_of words (first + k)) split ∙ rw next refl
+
+-- whether the pairs of a row rise
+pub rising_with : (i : ℕ) (js : List ℕ) → have_rising_pairs (pairs_with i js) ≡ list_all (ltb i) js
+rising_with i [] = refl
+rising_with i (j ∷ js) = ap (λ z. ltb i j && z) (rising_with i js)
+
+-- a row without a pair
+pub without_same : (i j : ℕ) (js : List ℕ) → without_pair i j (pairs_with i js) ≡ pairs_with i (remove_fact j js)
+without_same i j [] = refl
+without_same i j (x ∷ js) = rw (eq-eqb i i refl) (elim (eqb x j) as (λ c. cond (not c) ((i, x) ∷ without_pair i j (pairs_with i js)) (without_pair i j (pairs_with i js)) ≡ pairs_with i (cond (not c) (x ∷ remove_fact j js) (remove_fact j js))) [
+  | true ↦ without_same i j js
+  | false ↦ ap (λ z. (i, x) ∷ z) (without_same i j js)
+])
+
+pub without_other : (at i j : ℕ) (js : List ℕ) → (at ≡ i → ⊥) → without_pair i j (pairs_with at js) ≡ pairs_with at js
+without_other at i j [] ne = refl
+without_other at i j (x ∷ js) ne = rw (ne_eqb at i ne) (ap (λ z. (at, x) ∷ z) (without_other at i j js ne))
+
+-- what one row adds, where it is the one at a place
+module _ (words row : List ℕ) (first k : ℕ) (spans : List Span) (d : Span) (lt : k < length spans) (is : row ≡ words_at words (get_or spans k d)) where
+  pub rises_at : (above : Bool) → above ≡ list_all (ltb (first + k)) (row_of 0 row)
+      → have_rising_pairs (pairs_of words (first + k) (drop k spans)) ≡ (above && have_rising_pairs (pairs_of words (first + (k + 1)) (drop (k + 1) spans)))
+  rises_at above e =
+      let later = pairs_of words (first + (k + 1)) (drop (k + 1) spans) in
+      let here = pairs_with (first + k) (row_of 0 row) in
+      ap have_rising_pairs (pairs_of-split words first k spans d lt ∙ ap (λ (z : List ℕ). pairs_with (first + k) (row_of 0 z) ++ later) (sym is))
+      ∙ list_all-append (λ p. ltb p.0 p.1) here later ∙ ap (λ z. z && have_rising_pairs later) (rising_with (first + k) (row_of 0 row) ∙ sym e)
+
+  pub without_at : (i j : ℕ) → without_pair i j (pairs_of words first (take k spans)) ++ without_pair i j (pairs_with (first + k) (row_of 0 row)) ≡ without_pair i j (pairs_of words first (take (k + 1) spans))
+  without_at i j =
+      let before = pairs_of words first (take k spans) in
+      let place : length (take k spans) ≡ k = length-take-le k spans (omega arith) in
+      sym (ap (λ (z : List Span). without_pair i j (pairs_of words first z)) (take_at_read spans k d lt).1
+      ∙ ap (without_pair i j) (pairs_of-push words first (take k spans) (get_or spans k d) ∙ ap (λ z. before ++ pairs_with (first + z) (row_of 0 (words_at words (get_or spans k d)))) place
+      ∙ ap (λ (z : List ℕ). before ++ pairs_with (first + k) (row_of 0 z)) (sym is))
+      ∙ filter-append (λ p. not (p.0 == i && p.1 == j)) before (pairs_with (first + k) (row_of 0 row)))
+
+-- the part of the words that one row has, as a loop through the rows sees it
+module _ (words seen_words : List ℕ) (spans seen : List Span) (k : ℕ) (d : Span) (same_words : seen_words ≡ words) (same : seen ≡ spans) where
+  pub seen_fits : AreSpans (length words) spans → k < length seen → let s = get_or seen k d in (s.start ≤ s.end) × (s.end ≤ length seen_words) × (s.end ≤ s.start + 128)
+  seen_fits fits lt =
+      let at = AreSpans-at (length words) seen k d (subst (λ (z : List Span). AreSpans (length words) z) (sym same) fits) lt in
+      (at.0, omega (arith, at.1, ap (λ (z : List ℕ). length z) same_words), at.2)
+
+  pub seen_part : (row : List ℕ) → row ≡ words_at seen_words (get_or seen k d) → row ≡ words_at words (get_or spans k d)
+  seen_part row is = is ∙ ap (λ (z : List ℕ). words_at z (get_or seen k d)) same_words ∙ ap (λ (z : List Span). words_at words (get_or z k d)) same

@@ -1,7 +1,9 @@
 -- Words that hold a run of positions, and rows that make a total order.
-use Rattle.std.proofs.Common.{◌≡◌, ◌↔◌, ℕ, zero, suc, ◌+◌, ◌-◌, ◌*◌, ◌/◌, ◌%◌, ◌^◌, ◌<◌, ◌≤◌, min, max, Bool, true, false, eqb, leb, List, [], ◌∷◌, ◌++◌, length, get_or, refl, sym, ap, ◌∙◌, subst, inl, inr, arith}
+use Rattle.std.proofs.Common.{◌≡◌, ◌↔◌, ℕ, zero, suc, ◌+◌, ◌-◌, ◌*◌, ◌/◌, ◌%◌, ◌^◌, ◌<◌, ◌≤◌, min, max, Bool, true, false, not, eqb, ltb, leb, List, [], ◌∷◌, ◌++◌, length, get_or, refl, sym, ap, ◌∙◌, subst, inl, inr, arith}
 use Rattle.std.specs.Int.{bit_at}
-use Rattle.std.proofs.lemmas.Bool.{cases_eq, cases_lt, eq-eqb, ne_eqb, or_right, both_ways, leb-true, le-leb, eqb-true}
+use Rattle.std.specs.List.{list_any, list_all}
+use Rattle.std.specs.Prelude.{bit_and}
+use Rattle.std.proofs.lemmas.Bool.{cases_eq, cases_lt, eq-eqb, ne_eqb, or_right, both_ways, leb-true, le-leb, lt-ltb, le-ltb, eqb-true}
 use Rattle.std.proofs.lemmas.Nat.Bits.{same_from_bits_below}
 use Rattle.bd_base.specs.Bits.{bits_of, row_of, upto}
 use Rattle.bd_base.specs.Facts.{has, minus, remove_fact}
@@ -10,7 +12,7 @@ use Rattle.bd_base.specs.Rows.{words_at, pairs_with, pairs_of}
 use Rattle.bd_base.specs.declared.rows.Span.{Span}
 use Rattle.bd_base.proofs.BitLemmas.{has_bits_at}
 use Rattle.bd_base.proofs.FactLemmas.{remove_absent}
-use Rattle.bd_base.proofs.SetLemmas.{clear_single}
+use Rattle.bd_base.proofs.SetLemmas.{any_word, clear_single}
 use Rattle.bd_base.proofs.WordLemmas.{has_row_zero, append-nil, row_end}
 use Rattle.bd_base.proofs.RowLemmas.{append-none, after-append, after-with_same, after-with_other, after-below, after-at, after-past, with_upto}
 
@@ -71,6 +73,28 @@ run_word_is words k r from to order small fits whole part =
     let there : has (bits_of (64 * k) r) (64 * k + i) ≡ eqb (bit_at r i) 1 = has_bits_at (64 * k) r 0 64 i (omega arith) (omega arith) in
     same_bit (get_or words k 0) r i
     (sym here ∙ ap (λ (z : List ℕ). has z (64 * k + i)) whole ∙ sym (run_part (64 * k) from to i l order) ∙ ap (λ (z : List ℕ). has z (64 * k + i)) (sym part) ∙ there))
+
+-- the positions of a word that are above another
+above_each : (at : ℕ) (xs : List ℕ) → list_all (ltb at) xs ≡ not (list_any (has (upto 0 (at + 1))) xs)
+above_each at [] = refl
+above_each at (x ∷ xs) = elim (cases_lt at x) [
+  | inl lt ↦ rw (lt-ltb at x lt, has_upto_above 0 (at + 1) x (omega arith)) (above_each at xs)
+  | inr ge ↦ rw (le-ltb at x ge, has_upto_in 0 (at + 1) x (omega arith) (omega arith)) refl
+]
+
+pub above_word : (at n u w : ℕ) → u < 2 ^ 64 → bits_of (64 * n) u ≡ upto (max (64 * n) 0) (min (64 * n + 64) (at + 1) - max (64 * n) 0)
+    → list_all (ltb at) (bits_of (64 * n) w) ≡ eqb (bit_and u w) 0
+unfolding bits_of
+above_word at n u w small part =
+    let all : at + 1 - 0 ≡ at + 1 = omega arith in
+    above_each at (bits_of (64 * n) w) ∙ ap not (any_word (upto 0 (at + 1)) n u w small (λ b low.
+    ap (λ z. has (upto 0 z) (64 * n + b)) (sym all) ∙ sym (run_part (64 * n) 0 (at + 1) b low (omega arith))
+    ∙ ap (λ (z : List ℕ). has z (64 * n + b)) (sym part) ∙ has_bits_at (64 * n) u 0 64 b (omega arith) (omega arith)))
+    ∙ twice (eqb (bit_and u w) 0)
+  where
+    twice : (a : Bool) → not (not a) ≡ a
+    twice true = refl
+    twice false = refl
 
 -- the words hold a run up to their end
 pub run_all : (words : List ℕ) (from to : ℕ) → from ≤ to → (from ≡ to → ⊥) → row_of 0 words ≡ upto from (min (64 * length words) to - from)

@@ -117,6 +117,23 @@ run_bits base lo hi lt le =
     (λ i p q. let a = bit_at_and (2 ^ 64 - 2 ^ lo) (2 ^ hi - 1) i in let b = bit_at_mask_inside lo 64 i p (omega arith) in let d = bit_at_ones hi i (omega arith) in omega arith)
     (λ i p q. let a = bit_at_and (2 ^ 64 - 2 ^ lo) (2 ^ hi - 1) i in let d = bit_at_ones_above hi i (omega arith) in omega arith))
 
+-- a run up to the end of a word, and what the next word has of it
+pub run_next : (from to w : ℕ) → from ≤ to
+    → upto from (min (64 * (w + 1)) to - from) ≡ upto from (min (64 * w) to - from) ++ upto (max (64 * w) from) (min (64 * w + 64) to - max (64 * w) from)
+run_next from to w order =
+    let first : ℕ = min (64 * w) to - from in
+    let more : ℕ = min (64 * w + 64) to - max (64 * w) from in
+    elim (cases_lt (64 * w) to) [
+      | inl lt ↦
+          let joins : max (64 * w) from ≡ from + first = omega arith in
+          let all : min (64 * (w + 1)) to - from ≡ first + more = omega arith in
+          ap (upto from) all ∙ upto-append from first more ∙ ap (λ z. upto from first ++ upto z more) (sym joins)
+      | inr ge ↦
+          let none : more ≡ 0 = omega arith in
+          let all : min (64 * (w + 1)) to - from ≡ first = omega arith in
+          ap (upto from) all ∙ sym (ap (λ z. upto from first ++ upto (max (64 * w) from) z) none ∙ append-nil (upto from first))
+    ]
+
 -- one more word of a run
 pub run_more : (xs : List ℕ) (from to w v : ℕ) → from ≤ to → length xs ≡ w
     → row_of 0 xs ≡ upto from (min (64 * w) to - from)
@@ -124,18 +141,8 @@ pub run_more : (xs : List ℕ) (from to w v : ℕ) → from ≤ to → length xs
     → row_of 0 (xs ++ v ∷ []) ≡ upto from (min (64 * (w + 1)) to - from)
 run_more xs from to w v order len made is =
     let at : 0 + 64 * length xs ≡ 64 * w = omega arith in
-    let first : ℕ = min (64 * w) to - from in
-    let more : ℕ = min (64 * w + 64) to - max (64 * w) from in
-    row-append xs (v ∷ []) 0 ∙ rw (at, made, is) (rw (append-nil (upto (max (64 * w) from) more)) (elim (cases_lt (64 * w) to) [
-      | inl lt ↦
-          let joins : max (64 * w) from ≡ from + first = omega arith in
-          let all : min (64 * (w + 1)) to - from ≡ first + more = omega arith in
-          ap (λ z. upto from first ++ upto z more) joins ∙ sym (upto-append from first more) ∙ ap (upto from) (sym all)
-      | inr ge ↦
-          let none : more ≡ 0 = omega arith in
-          let all : min (64 * (w + 1)) to - from ≡ first = omega arith in
-          ap (λ z. upto from first ++ upto (max (64 * w) from) z) none ∙ append-nil (upto from first) ∙ ap (upto from) (sym all)
-    ]))
+    row-append xs (v ∷ []) 0
+    ∙ rw (at, made, is) (ap (λ z. upto from (min (64 * w) to - from) ++ z) (append-nil (upto (max (64 * w) from) (min (64 * w + 64) to - max (64 * w) from))) ∙ sym (run_next from to w order))
 
 pub has_row_zero : (words : List ℕ) (i : ℕ) → has (row_of 0 words) i ≡ eqb (bit_at (get_or words (i / 64) 0) (i % 64)) 1
 has_row_zero words i = let e : 0 + i ≡ i = omega arith in subst (λ z. has (row_of 0 words) z ≡ eqb (bit_at (get_or words (i / 64) 0) (i % 64)) 1) e (has_row words 0 i)

@@ -1,6 +1,6 @@
 -- Lists of pairs of positions, as orders: (i, j) says that i is before j.
 use Rattle.std.specs.List.{list_any, list_all, filter}
-use Rattle.std.specs.Prelude.{ℕ, zero, suc, ◌+◌, Bool, not, ◌&&◌, ◌||◌, ◌==◌, List, [], ◌∷◌, ◌++◌, map}
+use Rattle.std.specs.Prelude.{ℕ, zero, suc, ◌+◌, Bool, not, ◌&&◌, ◌||◌, ◌==◌, nat_lt, List, [], ◌∷◌, ◌++◌, map}
 
 -- whether i is before j
 abbrev pub is_before : List (ℕ × ℕ) → ℕ → ℕ → Bool
@@ -31,3 +31,11 @@ is_closed order = list_all (λ p. list_all (λ q. not (p.1 == q.0) || is_before 
 -- the positions that are before j
 abbrev pub before_of : List (ℕ × ℕ) → ℕ → List ℕ
 before_of order j = map (λ p. p.0) (filter (λ p. p.1 == j) order)
+
+-- whether each pair has its smaller position first
+abbrev pub have_rising_pairs : List (ℕ × ℕ) → Bool
+have_rising_pairs order = list_all (λ p. nat_lt p.0 p.1) order
+
+-- the list without the pair, wherever it stands
+abbrev pub without_pair : ℕ → ℕ → List (ℕ × ℕ) → List (ℕ × ℕ)
+without_pair i j order = filter (λ p. not (p.0 == i && p.1 == j)) order

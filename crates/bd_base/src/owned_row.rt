@@ -1,13 +1,13 @@
 // Sets of positions as words of their own.
 ghost use Rattle.std.specs.List.{filter};
-ghost use Rattle.std.specs.Prelude.{◌≡◌, ◌≤◌, ◌<◌, ◌^◌, [], length, OnOk, OnErr, IfOk};
-ghost use Rattle.bd_base.specs.Bits.{row_of};
+ghost use Rattle.std.specs.Prelude.{◌≡◌, ◌-◌, ◌≤◌, ◌<◌, ◌^◌, [], length, OnOk, OnErr, IfOk};
+ghost use Rattle.bd_base.specs.Bits.{row_of, upto};
 ghost use Rattle.bd_base.specs.Facts.{IsRising, has, insert_fact, plus};
 
 use crate::NoMemory;
 use crate::places::widen;
 use crate::row::Row;
-use crate::word_sets::{put_word, put_words};
+use crate::word_sets::{put_run, put_word, put_words};
 use std::alloc::Global;
 use std::marker::Model;
 
@@ -49,15 +49,34 @@ impl OwnedRow {
         Ok(())
     }
 
+    /// Puts in the positions of a row. After an error some may be in.
+    pub fn join(&mut self, of: &Row<'_>) -> Result<(), NoMemory>
+        ensures { OnOk result (self.new ≡ plus self.old of.now) }
+    {
+        match of.words() {
+            Some(words) => self.put_row(words),
+            None => self.put_each(of),
+        }
+    }
+
+    /// Puts in the positions that are at least `from` and below `to`. After an error some may be in.
+    pub fn put_run(&mut self, from: u32, to: u32) -> Result<(), NoMemory>
+        ensures { OnOk result (self.new ≡ plus self.old (upto from (to - from))) }
+    {
+        if from >= to {
+            return Ok(());
+        }
+        widen(&mut self.words, to.div_ceil(64) as usize)?;
+        put_run(&mut self.words, from, to);
+        Ok(())
+    }
+
     /// The set with the positions of a row.
     pub fn with(&self, alloc: Global, of: &Row<'_>) -> Result<OwnedRow, NoMemory>
         ensures { IfOk result (λ row. row ≡ plus self.now of.now) }
     {
         let mut row = self.try_copy(alloc)?;
-        match of.words() {
-            Some(words) => row.put_row(words)?,
-            None => row.put_each(of)?,
-        }
+        row.join(of)?;
         Ok(row)
     }
 

@@ -1,6 +1,7 @@
-ghost use Rattle.std.specs.Prelude.{◌≡◌, ◌↔◌, [], ◌+◌, ◌-◌, ◌<◌, ◌++◌, IfOk, OnOk, IsTrue, slice_get, length};
+ghost use Rattle.std.specs.Prelude.{◌≡◌, ◌↔◌, [], true, false, ◌+◌, ◌-◌, ◌<◌, ◌++◌, map, IfOk, OnOk, IsTrue, slice_get, length};
 ghost use Rattle.bd_base.specs.Facts.{plus};
-ghost use Rattle.bd_base.specs.Pairs.{after_of, before_each, before_of, is_before, is_closed, total_order};
+ghost use Rattle.bd_base.specs.Pairs.{after_of, before_each, before_of, have_rising_pairs, is_before, is_closed, total_order, without_pair};
+ghost use Rattle.bd_base.specs.Rows.{pairs_with};
 
 use crate::NoMemory;
 use crate::owned_row::OwnedRow;
@@ -36,6 +37,15 @@ impl Model for PairList {
 }
 
 impl PairList {
+    /// No pairs. It takes no memory.
+    pub fn new(alloc: Global) -> PairList
+        ensures { result ≡ [] }
+    {
+        PairList {
+            form: Form::InRows(Rows::new(alloc)),
+        }
+    }
+
     /// The list of these pairs, as they stand.
     pub fn of(alloc: Global, pairs: &[(u32, u32)]) -> Result<PairList, NoMemory>
         ensures { IfOk result (λ p. p ≡ pairs.now) }
@@ -61,6 +71,47 @@ impl PairList {
         Ok(PairList {
             form: Form::Listed(total_pairs(alloc, n)?),
         })
+    }
+
+    /// Adds the pairs of i with the positions of a row, behind all others. After an error some of them may be in.
+    /// Where both are stored as words, and the row comes behind all rows with positions above i, it takes memory for
+    /// the row's own words alone.
+    pub fn put_row(&mut self, alloc: Global, i: u32, row: &Row<'_>) -> Result<(), NoMemory>
+        ensures { OnOk result (self.new ≡ self.old ++ map (λ j. (i, j)) row.now) }
+    {
+        match &mut self.form {
+            Form::Listed(pairs) => push_places(pairs, i, row),
+            Form::InRows(rows) => {
+                if !put_in_rows(rows, i, row)? {
+                    *self = listed_with(alloc, rows, i, row)?;
+                }
+                Ok(())
+            }
+        }
+    }
+
+    /// The same list without the pair, wherever it stands. Rows are copied a word at a time.
+    pub fn without(&self, alloc: Global, i: u32, j: u32) -> Result<PairList, NoMemory>
+        ensures { IfOk result (λ p. p ≡ without_pair i j self.now) }
+    {
+        if let Form::InRows(rows) = &self.form {
+            if let Some(rows) = rows.without(alloc, i, j)? {
+                return Ok(PairList {
+                    form: Form::InRows(rows),
+                });
+            }
+        }
+        walk_without(alloc, self, i, j)
+    }
+
+    /// Whether each pair has its smaller position first.
+    pub fn rises(&self) -> bool
+        ensures { result ≡ have_rising_pairs self.now }
+    {
+        match &self.form {
+            Form::Listed(pairs) => pairs.iter().all(|p| p.0 < p.1),
+            Form::InRows(rows) => rows.rises(),
+        }
     }
 
     /// How many pairs it has.
@@ -162,6 +213,63 @@ impl PairList {
         };
         Ok(PairList { form })
     }
+}
+
+// The list of these pairs.
+fn made_of(alloc: Global, pairs: Vec<(u32, u32)>) -> Result<PairList, NoMemory>
+    ensures { IfOk result (λ p. p ≡ pairs.items) }
+{
+    let form = match rows_of(alloc, &pairs)? {
+        None => Form::Listed(pairs),
+        Some(rows) => Form::InRows(rows),
+    };
+    Ok(PairList { form })
+}
+
+// Puts in the pairs of i with the positions of a row, where they can be a row behind all rows; false where they can't.
+fn put_in_rows(rows: &mut Rows, i: u32, row: &Row<'_>) -> Result<bool, NoMemory>
+    ensures took { IfOk result (λ took. took ≡ true → rows.new ≡ rows.old ++ pairs_with i row.now) }
+    ensures left { IfOk result (λ took. took ≡ false → rows.new ≡ rows.old) }
+{
+    match row.words() {
+        None => Ok(false),
+        Some(words) => rows.put_words(i, words),
+    }
+}
+
+// Adds the pairs of i with the positions of a row.
+fn push_places(pairs: &mut Vec<(u32, u32)>, i: u32, row: &Row<'_>) -> Result<(), NoMemory>
+    ensures { OnOk result (pairs.new.items ≡ pairs.old.items ++ pairs_with i row.now) }
+{
+    for j in row.iter() {
+        pairs.push((i, j))?;
+    }
+    Ok(())
+}
+
+// The list of the pairs of rows, and of i with the positions of a row behind them, pair by pair.
+fn listed_with(alloc: Global, rows: &Rows, i: u32, row: &Row<'_>) -> Result<PairList, NoMemory>
+    ensures { IfOk result (λ p. p ≡ rows.now ++ pairs_with i row.now) }
+{
+    let mut pairs = Vec::new(alloc);
+    for p in rows.iter() {
+        pairs.push(p)?;
+    }
+    push_places(&mut pairs, i, row)?;
+    made_of(alloc, pairs)
+}
+
+// The same list without the pair, pair by pair.
+fn walk_without(alloc: Global, order: &PairList, i: u32, j: u32) -> Result<PairList, NoMemory>
+    ensures { IfOk result (λ p. p ≡ without_pair i j order.now) }
+{
+    let mut pairs = Vec::new(alloc);
+    for p in order.iter() {
+        if !(p.0 == i && p.1 == j) {
+            pairs.push(p)?;
+        }
+    }
+    made_of(alloc, pairs)
 }
 
 // The set of the positions that are before j, pair by pair.

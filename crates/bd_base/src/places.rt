@@ -1,5 +1,6 @@
 // Positions as the set bits of words: word w has the positions from 64 w on.
-ghost use Rattle.std.specs.Prelude.{◌≡◌, ◌↔◌, ℕ, ◌+◌, ◌-◌, ◌*◌, ◌/◌, ◌<◌, ◌≤◌, ◌^◌, ◌++◌, ◌∷◌, [], true, min, max, length, count_ones, IfOk, OnOk, IsTrue};
+ghost use Rattle.std.specs.List.{list_all};
+ghost use Rattle.std.specs.Prelude.{◌≡◌, ◌↔◌, ℕ, ◌+◌, ◌-◌, ◌*◌, ◌/◌, ◌<◌, ◌≤◌, ◌^◌, ◌++◌, ◌∷◌, [], true, min, max, length, nat_lt, count_ones, IfOk, OnOk, IsTrue};
 ghost use Rattle.bd_base.specs.Bits.{bits_of, row_of, upto};
 ghost use Rattle.bd_base.specs.Facts.{has};
 
@@ -70,24 +71,42 @@ pub(crate) fn push_place(words: &mut Vec<u64>, at: u32) -> Result<bool, NoMemory
 
 /// The word of the 64 positions from base on that has those that are at least `from` and below `to`.
 pub(crate) fn run_word(base: u32, from: u32, to: u32) -> u64
-    requires { base + 64 ≤ 2 ^ 32 - 1 }
     ensures { bits_of base result ≡ upto (max base from) (min (base + 64) to - max base from) }
 {
-    if from <= base && base + 64 <= to {
-        return u64::MAX;
-    }
-    if base + 64 <= from {
-        return 0;
-    }
-    if to <= base {
-        return 0;
-    }
-    let low = from.max(base) - base;
-    let high = to.min(base + 64).max(base) - base;
+    let low = from.saturating_sub(base);
+    let high = to.saturating_sub(base).min(64);
     if low >= high {
         return 0;
     }
     u64::MAX << low & u64::MAX >> (64 - high)
+}
+
+/// Whether each position that the words hold is above another.
+pub(crate) fn are_above(words: &[u64], at: u32) -> bool
+    requires { (length words.now ≤ 128) × (at < 8192) }
+    ensures { result ≡ list_all (nat_lt at) (row_of 0 words.now) }
+{
+    for (w, word) in words.iter().enumerate() {
+        if run_word(64 * w as u32, 0, at + 1) & *word != 0 {
+            return false;
+        }
+    }
+    true
+}
+
+/// The words without the empty ones at the end.
+pub(crate) fn trimmed(words: &[u64]) -> &[u64]
+    ensures same { row_of 0 result.now ≡ row_of 0 words.now }
+    ensures short { length result.now ≤ length words.now }
+{
+    let mut kept = words;
+    while let Some((last, rest)) = kept.split_last() {
+        if *last != 0 {
+            return kept;
+        }
+        kept = rest;
+    }
+    kept
 }
 
 /// Makes the words hold the positions that are at least `from` and below `to`.

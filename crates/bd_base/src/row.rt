@@ -1,11 +1,11 @@
 // The positions that one position is before.
 ghost use Rattle.std.specs.Int.{bit_at};
-ghost use Rattle.std.specs.Prelude.{◌≡◌, ℕ, ◌+◌, ◌*◌, ◌<◌, ◌^◌, ◌==◌, ◌≤◌, ◌∷◌, [], length, IfSome, MatchOption};
+ghost use Rattle.std.specs.Prelude.{◌≡◌, ℕ, ◌+◌, ◌*◌, ◌<◌, ◌^◌, ◌==◌, ◌≤◌, ◌∷◌, [], length, count_by, IfSome, MatchOption};
 ghost use Rattle.bd_base.specs.Bits.{row_of};
 ghost use Rattle.bd_base.specs.Facts.{has, is_subset};
 ghost use Rattle.bd_base.specs.Pairs.{after_of, is_before};
 
-use crate::places::{Places, has_place};
+use crate::places::{Places, count_places, has_place};
 use crate::word_sets::{word_at, words_within};
 use std::marker::Model;
 
@@ -61,6 +61,16 @@ impl<'a> Row<'a> {
             Form::Listed(pairs, i) => Walk::Listed(pairs, *i),
         };
         RowPlaces { walk }
+    }
+
+    /// How many positions it has. A row that is stored as words counts them a word at a time.
+    pub fn len(&self) -> usize
+        ensures { result ≡ length self.now }
+    {
+        match &self.form {
+            Form::Words(words) => count_places(words),
+            Form::Listed(pairs, i) => count_after(pairs, *i),
+        }
     }
 
     /// Whether the position is in the row.
@@ -178,6 +188,13 @@ fn has_pair(pairs: &[(u32, u32)], i: u32, j: u32) -> bool
     ensures { result ≡ is_before pairs.now i j }
 {
     pairs.iter().any(|p| p.0 == i && p.1 == j)
+}
+
+// How many positions i is before, pair by pair.
+fn count_after(pairs: &[(u32, u32)], i: u32) -> usize
+    ensures { result ≡ count_by (λ p. p.0 == i) pairs.now }
+{
+    pairs.iter().filter(|p| p.0 == i).count()
 }
 
 // The first position that i is before, and the pairs behind that pair.

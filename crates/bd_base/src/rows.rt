@@ -1,18 +1,22 @@
 // An order of less than 8192 positions as rows of words: row i holds the positions that i is before.
-ghost use Rattle.std.specs.Prelude.{◌≡◌, ◌↔◌, ℕ, ◌+◌, ◌-◌, ◌*◌, ◌<◌, ◌≤◌, ◌++◌, ◌∷◌, [], List, true, max, map, length, IfOk, OnOk, IsTrue, slice_get};
+ghost use Rattle.std.specs.Prelude.{◌≡◌, ◌↔◌, ℕ, ◌+◌, ◌-◌, ◌*◌, ◌<◌, ◌≤◌, ◌++◌, ◌∷◌, [], List, true, false, max, map, length, IfOk, IfSome, OnOk, IsTrue, slice_get};
 ghost use Rattle.bd_base.specs.Bits.{row_of};
 ghost use Rattle.bd_base.specs.Facts.{plus};
-ghost use Rattle.bd_base.specs.Pairs.{after_of, before_of, is_before, total_order};
+ghost use Rattle.bd_base.specs.Pairs.{after_of, before_of, have_rising_pairs, is_before, total_order, without_pair};
 ghost use Rattle.bd_base.specs.Rows.{AreSpans, pairs_of, pairs_with, words_at};
 
 use crate::NoMemory;
 use crate::owned_row::OwnedRow;
-use crate::places::{Places, count_places, has_place, is_run};
+use crate::places::{Places, are_above, count_places, has_place, is_run, trimmed};
+use crate::word_sets::clear_word;
 use std::alloc::Global;
 use std::marker::Model;
 
 /// No position of an order that is stored as rows is as large as this.
 pub(crate) const ROW_LIMIT: u32 = 8192;
+
+/// No row has more words than these.
+const ROW_WORDS: usize = 128;
 
 /// Where a row's words lie among all words.
 #[derive(Clone, Copy, Debug)]
@@ -148,7 +152,8 @@ impl Rows {
     /// isn't. A row without words is left out.
     pub(crate) fn push_row(&mut self, i: u32, row: &[u64]) -> Result<bool, NoMemory>
         requires { length row.now ≤ 128 }
-        ensures { IfOk result (λ took. took ≡ true → self.new ≡ self.old ++ pairs_with i (row_of 0 row.now)) }
+        ensures took { IfOk result (λ took. took ≡ true → self.new ≡ self.old ++ pairs_with i (row_of 0 row.now)) }
+        ensures left { IfOk result (λ took. took ≡ false → self.new ≡ self.old) }
     {
         if row.is_empty() {
             return Ok(true);
@@ -167,6 +172,78 @@ impl Rows {
         self.first = first;
         add_row(&mut self.spans, &mut self.words, at, row)?;
         Ok(true)
+    }
+
+    /// Puts in the pairs of i with the positions of words, where they rise and stand behind all others; false
+    /// where they don't, or where rows can't hold them. A row has no words behind its last position.
+    pub(crate) fn put_words(&mut self, i: u32, words: &[u64]) -> Result<bool, NoMemory>
+        ensures took { IfOk result (λ took. took ≡ true → self.new ≡ self.old ++ pairs_with i (row_of 0 words.now)) }
+        ensures left { IfOk result (λ took. took ≡ false → self.new ≡ self.old) }
+    {
+        let row = trimmed(words);
+        if row.len() > ROW_WORDS {
+            return Ok(false);
+        }
+        if i < ROW_LIMIT && !are_above(row, i) {
+            return Ok(false);
+        }
+        self.push_row(i, row)
+    }
+
+    // No rows, with the room that these take.
+    fn with_same_room(&self, alloc: Global) -> Result<Rows, NoMemory>
+        ensures { IfOk result (λ made. made ≡ []) }
+    {
+        Ok(Rows {
+            first: 0,
+            spans: Vec::with_capacity(alloc, self.spans.len())?,
+            words: Vec::with_capacity(alloc, self.words.len())?,
+        })
+    }
+
+    // Puts in the pairs of a row but one, where the row is behind all rows; false where it isn't.
+    fn push_without(
+        &mut self,
+        alloc: Global,
+        at: u32,
+        row: &[u64],
+        pair: (u32, u32),
+    ) -> Result<bool, NoMemory>
+        requires { length row.now ≤ 128 }
+        ensures { IfOk result (λ took. took ≡ true → self.new ≡ self.old ++ without_pair pair.0 pair.1 (pairs_with at (row_of 0 row.now))) }
+    {
+        if at != pair.0 {
+            return self.push_row(at, row);
+        }
+        let mut left = Vec::from_slice(alloc, row)?;
+        clear_word(&mut left, pair.1 as usize / 64, 1 << (pair.1 % 64));
+        self.push_row(at, trimmed(&left))
+    }
+
+    /// The rows without a pair, if they can be made.
+    pub(crate) fn without(&self, alloc: Global, i: u32, j: u32) -> Result<Option<Rows>, NoMemory>
+        ensures { IfOk result (λ made. IfSome made (λ rows. rows ≡ without_pair i j self.now)) }
+    {
+        let mut rows = self.with_same_room(alloc)?;
+        for (k, span) in self.spans.iter().enumerate() {
+            let row = part_of(&self.words, *span);
+            if !rows.push_without(alloc, self.first + k as u32, row, (i, j))? {
+                return Ok(None);
+            }
+        }
+        Ok(Some(rows))
+    }
+
+    /// Whether each pair has its smaller position first.
+    pub(crate) fn rises(&self) -> bool
+        ensures { result ≡ have_rising_pairs self.now }
+    {
+        for (k, span) in self.spans.iter().enumerate() {
+            if !are_above(part_of(&self.words, *span), self.first + k as u32) {
+                return false;
+            }
+        }
+        true
     }
 
     /// The words of the positions that i is before.

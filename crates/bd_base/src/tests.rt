@@ -1,6 +1,7 @@
+use crate::rows::Rows;
 use crate::{
-    DirShelf, FactId, FactSet, FromItems, Items, MemShelf, MemSink, NoMemory, PairList, Shelf,
-    ShelfErr, Sink, StreamSink, Text,
+    DirShelf, FactId, FactSet, FromItems, Items, MemShelf, MemSink, NoMemory, OwnedRow, PairList,
+    Shelf, ShelfErr, Sink, StreamSink, Text,
 };
 use std::alloc::Global;
 use std::fs;
@@ -248,5 +249,162 @@ fn a_real_file_is_written_and_read(rt: HostRuntime) -> Result<(), Fail> {
     assert!(rt; matches!(shelf.read(alloc, path, 11), Err(ShelfErr::TooBig)));
     fs::remove_file(&rt, path)?;
     assert!(rt; matches!(shelf.read(alloc, path, 12), Err(ShelfErr::Missing)));
+    Ok(())
+}
+
+// The pairs in order.
+fn walked(alloc: Global, order: &PairList) -> Result<Vec<(u32, u32)>, NoMemory> {
+    let mut pairs = Vec::new(alloc);
+    for p in order.iter() {
+        pairs.push(p)?;
+    }
+    Ok(pairs)
+}
+
+// Whether the list has these pairs, and is stored as rows.
+fn is_rows_of(alloc: Global, order: &PairList, pairs: &[(u32, u32)]) -> Result<bool, NoMemory> {
+    Ok(order.is_in_rows() && walked(alloc, order)?.as_slice() == pairs)
+}
+
+// Whether the list has these pairs, and is stored as they stand.
+fn is_listed_of(alloc: Global, order: &PairList, pairs: &[(u32, u32)]) -> Result<bool, NoMemory> {
+    Ok(!order.is_in_rows() && walked(alloc, order)?.as_slice() == pairs)
+}
+
+#[test]
+fn rows_are_put_behind_others(rt: HostRuntime) -> Result<(), Fail> {
+    let alloc = rt.alloc();
+    let given = PairList::of(alloc, &[(0, 1), (0, 200), (7, 8191)])?;
+    let mut order = PairList::new(alloc);
+    order.put_row(alloc, 0, &given.after(0))?;
+    order.put_row(alloc, 5, &given.after(1))?;
+    order.put_row(alloc, 8000, &given.after(7))?;
+    assert!(rt; is_rows_of(alloc, &order, &[(0, 1), (0, 200), (8000, 8191)])?);
+    Ok(())
+}
+
+#[test]
+fn a_listed_row_is_put_into_rows(rt: HostRuntime) -> Result<(), Fail> {
+    let alloc = rt.alloc();
+    let listed = PairList::of(alloc, &[(1, 0), (0, 3), (0, 5)])?;
+    let mut order = PairList::of(alloc, &[(0, 9)])?;
+    order.put_row(alloc, 2, &listed.after(0))?;
+    assert!(rt; is_rows_of(alloc, &order, &[(0, 9), (2, 3), (2, 5)])?);
+    Ok(())
+}
+
+#[test]
+fn a_row_that_falls_or_stands_before_others_is_listed(rt: HostRuntime) -> Result<(), Fail> {
+    let alloc = rt.alloc();
+    let given = PairList::of(alloc, &[(0, 3), (0, 70)])?;
+    let mut order = PairList::new(alloc);
+    order.put_row(alloc, 3, &given.after(0))?;
+    assert!(rt; is_listed_of(alloc, &order, &[(3, 3), (3, 70)])?);
+    order.put_row(alloc, 1, &given.after(0))?;
+    assert!(rt; is_listed_of(alloc, &order, &[(3, 3), (3, 70), (1, 3), (1, 70)])?);
+    let mut late = given.try_copy(alloc)?;
+    late.put_row(alloc, 0, &given.after(0))?;
+    assert!(rt; is_listed_of(alloc, &late, &[(0, 3), (0, 70), (0, 3), (0, 70)])?);
+    Ok(())
+}
+
+#[test]
+fn a_row_too_long_for_rows_is_listed(rt: HostRuntime) -> Result<(), Fail> {
+    let alloc = rt.alloc();
+    let mut far = OwnedRow::new(alloc);
+    far.put(5)?;
+    far.put(8192)?;
+    let mut order = PairList::new(alloc);
+    order.put_row(alloc, 0, &far.row())?;
+    assert!(rt; is_listed_of(alloc, &order, &[(0, 5), (0, 8192)])?);
+    far.meet(&PairList::of(alloc, &[(0, 5)])?.after(0));
+    let mut less = PairList::new(alloc);
+    less.put_row(alloc, 0, &far.row())?;
+    assert!(rt; is_rows_of(alloc, &less, &[(0, 5)])?);
+    Ok(())
+}
+
+#[test]
+fn rows_go_without_a_pair(rt: HostRuntime) -> Result<(), Fail> {
+    let alloc = rt.alloc();
+    let order = PairList::of(alloc, &[(0, 1), (0, 70), (1, 70), (9, 70)])?;
+    let less = order.without(alloc, 0, 70)?;
+    assert!(rt; is_rows_of(alloc, &less, &[(0, 1), (1, 70), (9, 70)])?);
+    assert!(rt; is_rows_of(alloc, &less.without(alloc, 0, 1)?, &[(1, 70), (9, 70)])?);
+    assert!(rt;
+        is_rows_of(
+            alloc,
+            &less.without(alloc, 70, 1)?,
+            &[(0, 1), (1, 70), (9, 70)]
+        )?
+    );
+    let mut last = less.without(alloc, 9, 70)?;
+    last.put_row(alloc, 8, &order.after(1))?;
+    assert!(rt; is_rows_of(alloc, &last, &[(0, 1), (1, 70), (8, 70)])?);
+    Ok(())
+}
+
+#[test]
+fn a_listed_list_goes_without_a_pair(rt: HostRuntime) -> Result<(), Fail> {
+    let alloc = rt.alloc();
+    let order = PairList::of(alloc, &[(1, 0), (4, 9), (1, 0), (4, 10)])?;
+    assert!(rt; is_rows_of(alloc, &order.without(alloc, 1, 0)?, &[(4, 9), (4, 10)])?);
+    let less = order.without(alloc, 4, 9)?;
+    assert!(rt; is_listed_of(alloc, &less, &[(1, 0), (1, 0), (4, 10)])?);
+    Ok(())
+}
+
+#[test]
+fn pairs_rise_in_both_forms(rt: HostRuntime) -> Result<(), Fail> {
+    let alloc = rt.alloc();
+    assert!(rt; PairList::of(alloc, &[(0, 1), (70, 71)])?.rises());
+    assert!(rt; PairList::of(alloc, &[(1, 2), (0, 1)])?.rises());
+    assert!(rt; !PairList::of(alloc, &[(1, 2), (1, 1)])?.rises());
+    let mut rows = Rows::new(alloc);
+    assert!(rt; rows.push_row(5, &[0, 1])?);
+    assert!(rt; rows.rises());
+    assert!(rt; rows.push_row(64, &[0, 1])?);
+    assert!(rt; !rows.rises());
+    Ok(())
+}
+
+#[test]
+fn positions_after_one_are_counted(rt: HostRuntime) -> Result<(), Fail> {
+    let alloc = rt.alloc();
+    let order = PairList::of(alloc, &[(0, 1), (0, 2), (0, 200)])?;
+    assert_eq!(rt; order.after(0).len(), 3);
+    assert_eq!(rt; order.after(1).len(), 0);
+    let listed = PairList::of(alloc, &[(1, 0), (0, 2), (1, 0), (1, 9)])?;
+    assert_eq!(rt; listed.after(1).len(), 3);
+    Ok(())
+}
+
+#[test]
+fn a_run_is_put_across_words(rt: HostRuntime) -> Result<(), Fail> {
+    let alloc = rt.alloc();
+    let mut row = OwnedRow::new(alloc);
+    row.put(300)?;
+    row.put_run(62, 130)?;
+    row.put_run(400, 400)?;
+    row.put_run(500, 2)?;
+    assert_eq!(rt; row.row().len(), 69);
+    assert!(rt; !row.row().has(61));
+    assert!(rt; row.row().has(62));
+    assert!(rt; row.row().has(129));
+    assert!(rt; !row.row().has(130));
+    Ok(())
+}
+
+#[test]
+fn rows_are_joined(rt: HostRuntime) -> Result<(), Fail> {
+    let alloc = rt.alloc();
+    let order = PairList::of(alloc, &[(0, 1), (0, 70)])?;
+    let listed = PairList::of(alloc, &[(5, 3), (5, 200)])?;
+    let mut row = OwnedRow::new(alloc);
+    row.join(&order.after(0))?;
+    row.join(&listed.after(5))?;
+    assert_eq!(rt; row.row().len(), 4);
+    assert!(rt; row.row().has(70));
+    assert!(rt; row.row().has(200));
     Ok(())
 }

@@ -1,11 +1,11 @@
 // Sets of facts as words from word 0 on: word n has the facts from 64 n on.
 ghost use Rattle.std.specs.List.{list_any};
-ghost use Rattle.std.specs.Prelude.{◌≡◌, ◌+◌, ◌*◌, ◌<◌, ◌≤◌, ◌^◌, true, max, length, slice_index, IfOk, OnOk};
-ghost use Rattle.bd_base.specs.Bits.{bits_of, row_of};
+ghost use Rattle.std.specs.Prelude.{◌≡◌, ◌+◌, ◌-◌, ◌*◌, ◌<◌, ◌≤◌, ◌^◌, true, max, length, slice_index, IfOk, OnOk};
+ghost use Rattle.bd_base.specs.Bits.{bits_of, row_of, upto};
 ghost use Rattle.bd_base.specs.Facts.{has, is_subset, plus, minus};
 
 use crate::NoMemory;
-use crate::places::widen;
+use crate::places::{run_word, widen};
 
 /// How many words aren't 0.
 pub(crate) fn used(words: &[u64]) -> usize
@@ -68,6 +68,18 @@ pub(crate) fn put_words(words: &mut Vec<u64>, others: &[u64])
 {
     for (n, word) in others.iter().enumerate() {
         put_word(words, n, *word);
+    }
+}
+
+/// Puts in the facts that are at least `from` and below `to`.
+pub(crate) fn put_run(words: &mut Vec<u64>, from: u32, to: u32)
+    requires order { from ≤ to }
+    requires room { to ≤ 64 * length words.old.items }
+    ensures put { row_of 0 words.new.items ≡ plus (row_of 0 words.old.items) (upto from (to - from)) }
+    ensures len { length words.new.items ≡ length words.old.items }
+{
+    for w in from / 64..to.div_ceil(64) {
+        put_word(words, w as usize, run_word(64 * w, from, to));
     }
 }
 

@@ -19,7 +19,7 @@ loop-i-preserved c =
     record {
       row = c.clear_word.ensures.cleared ∙ run_without (row_of 0 c.loop-i.row.items) i n (omega arith) run;
       short = omega (arith, c.clear_word.ensures.len);
-      made = ap (λ (z : List (ℕ × ℕ)). z ++ in_turn (i + 1) (n - (i + 1))) (c.in_ok-push_row.ensures took ∙ ap (λ (z : List (ℕ × ℕ)). c.loop-i.rows ++ z) (row ∙ with_upto i (i + 1) (n - (i + 1))))
+      made = ap (λ (z : List (ℕ × ℕ)). z ++ in_turn (i + 1) (n - (i + 1))) (c.in_ok-push_row.ensures.took took ∙ ap (λ (z : List (ℕ × ℕ)). c.loop-i.rows ++ z) (row ∙ with_upto i (i + 1) (n - (i + 1))))
           ∙ in_turn-more c.loop-i.rows i n (omega arith) ∙ inv.made;
     }
 
