@@ -49,7 +49,7 @@ abbrev squares : List ℕ → ℕ
 squares [] = 0
 squares (x ∷ xs) = x * x + squares xs
 
-cross_within : (xs : List ℕ) → squares xs + cross xs ≤ total xs * total xs
+cross_within : (xs : List ℕ) → squares xs + cross xs + cross xs ≤ total xs * total xs
 cross_within [] = omega arith
 cross_within (x ∷ xs) = omega (arith, cross_within xs)
 
@@ -132,10 +132,16 @@ room_whole : (s : List ℕ) → room s 0 1 ≤ cross s
 room_whole [] = omega arith
 room_whole (x ∷ s) = omega arith
 
-pub products_within : (s : List ℕ) (order : List (ℕ × ℕ)) → is_order (length s) order ≡ true → squares s + products order s ≤ total s * total s
+products_within : (s : List ℕ) (order : List (ℕ × ℕ)) → is_order (length s) order ≡ true → squares s + products order s + products order s ≤ total s * total s
 products_within s order o =
     let parts = and_parts _ _ (and_parts _ _ o).0 in
     omega (arith, products_from s order 0 1 parts.0 parts.1 (starts s (length s) order parts.0), room_whole s, cross_within s)
+
+-- of all pairs of steps at most one half is ordered
+pub products_half : (s : List ℕ) (order : List (ℕ × ℕ)) → is_order (length s) order ≡ true → total s < 2 ^ 32 → products order s ≤ 2 ^ 63
+products_half s order o few =
+    let low : total s ≤ 2 ^ 32 - 1 = omega arith in
+    omega (arith, products_within s order o, mul-le (total s) (total s) (2 ^ 32 - 1) (2 ^ 32 - 1) low low)
 
 abbrev HasFewPairs : Node → Type 0
 HasFewPairs n = has_orders n ≡ true → pairs_of n ≤ steps_of n * steps_of n
@@ -182,20 +188,16 @@ module _ (n : Node) (id : ℕ) (kids ks : List Node) (order : List (ℕ × ℕ))
   pub block_ordered : has_orders n ≡ true → list_all (λ b. b) (map has_orders ks) ≡ true
   block_ordered h = ap (λ z. list_all (λ b. b) (map has_orders z)) same ∙ (and_parts (list_all (λ b. b) (map has_orders kids)) (is_order (length (map has_orders kids)) order) (block_orders h)).0
 
-  pub block_within : has_orders n ≡ true → list_all (is_within (length ks)) order ≡ true
-  block_within h =
-      let o : is_order (length (map has_orders kids)) order ≡ true = (and_parts (list_all (λ b. b) (map has_orders kids)) (is_order (length (map has_orders kids)) order) (block_orders h)).1 in
-      ap (λ z. list_all (is_within (length z)) order) same
-      ∙ ap (λ z. list_all (is_within z) order) (sym (length-map kids has_orders))
-      ∙ (and_parts _ _ (and_parts _ _ o).0).0
+  pub block_order : has_orders n ≡ true → is_order (length ks) order ≡ true
+  block_order h =
+      ap (λ z. is_order (length z) order) same
+      ∙ ap (λ z. is_order z order) (sym (length-map kids has_orders))
+      ∙ (and_parts (list_all (λ b. b) (map has_orders kids)) (is_order (length (map has_orders kids)) order) (block_orders h)).1
 
   pub block_pairs : pairs_of n ≡ products order (map steps_of ks) + total (map pairs_of ks)
   block_pairs =
       let sum : pairs_of n ≡ total (map pairs_of kids) + products order (map steps_of kids) = ap pairs_of is ∙ pairs_of-Block id kids order in
       omega (arith, sum, ap (λ z. total (map pairs_of z)) same, ap (λ z. products order (map steps_of z)) same)
-
-  pub block_small : has_orders n ≡ true → nodes_of n < 2 ^ 32 → products order (map steps_of ks) < 2 ^ 64
-  block_small h few = omega (arith, block_pairs, pairs_fit n h few)
 
   pub block_nodes : nodes_of n < 2 ^ 32 → total (map nodes_of ks) < 2 ^ 32
   block_nodes few = omega (arith, few, ap nodes_of is ∙ nodes_of-Block id kids order, ap (λ z. total (map nodes_of z)) same)

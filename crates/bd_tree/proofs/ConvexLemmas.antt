@@ -5,10 +5,9 @@ use Rattle.std.specs.List.{list_any, enumerate_from}
 use Rattle.std.proofs.lemmas.Bool.{and_parts, and_left, and_right, or_parts, or_right, or_from, not_from_false, ltb-true, le-ltb, eqb-true, false_from_ne_true}
 use Rattle.std.proofs.lemmas.List.{length-take}
 use Rattle.bd_base.specs.Facts.{has}
-use Rattle.bd_base.specs.Pairs.{is_before}
+use Rattle.bd_base.specs.Pairs.{have_rising_pairs, is_before}
 use Rattle.bd_tree.specs.declared.node.Node.{Node}
 use Rattle.bd_tree.specs.Convex.{is_member, is_after_some, is_before_some, is_aside, has_member, SpansMembers}
-use Rattle.bd_tree.specs.Order.{have_rising_pairs}
 use Rattle.bd_tree.specs.Tree.{id_of}
 use Rattle.bd_tree.proofs.OrderLemmas.{none_of}
 

@@ -8,6 +8,8 @@ pub mod ListedLemmas
 pub mod MisfitLemmas
 pub mod NodeLemmas
 pub mod OrderLemmas
+pub mod ProductLemmas
 pub mod RefusedLemmas
 pub mod SpanLemmas
+pub mod SumLemmas
 pub mod TreeLemmas

@@ -4,7 +4,7 @@ use Rattle.std.specs.List.{list_all, list_any}
 use Rattle.std.proofs.lemmas.Bool.{and_parts, and_from, or_left, or_right, ltb-true, lt-ltb, eqb-true, eq-eqb, cases_eq, ne_eqb, false_from_ne_true}
 use Rattle.std.proofs.lemmas.List.Folds.{list_all-append, list_any-append}
 use Rattle.bd_base.specs.Pairs.{is_before, before_each, in_turn, total_order, is_closed}
-use Rattle.bd_tree.specs.Order.{is_less, is_rising, is_within, is_order, have_rising_pairs}
+use Rattle.bd_tree.specs.Order.{is_less, is_rising, is_within, is_order}
 
 module _ {X : Type 0} where
   pub all_weaker : (t u : X → Bool) → ((x : X) → t x ≡ true → u x ≡ true) → (xs : List X) → list_all t xs ≡ true → list_all u xs ≡ true
@@ -96,13 +96,3 @@ not_before n order i j o le = none_of (is_within n) (λ p. eqb p.0 i && eqb p.1 
     let i_is : p.0 ≡ i = eqb-true _ _ same.0 in
     let j_is : p.1 ≡ j = eqb-true _ _ same.1 in
     omega arith)) order (and_parts _ _ (and_parts _ _ o).0).0
-
--- the pairs of a total order rise
-rises_within : (n : ℕ) (order : List (ℕ × ℕ)) → list_all (is_within n) order ≡ true → have_rising_pairs order ≡ true
-rises_within n [] h = refl
-rises_within n (p ∷ ps) h =
-    let parts = and_parts (is_within n p) (list_all (is_within n) ps) h in
-    and_from _ _ (and_parts (ltb p.0 p.1) (ltb p.1 n) parts.0).0 (rises_within n ps parts.1)
-
-pub total_rises : (n : ℕ) → have_rising_pairs (total_order n) ≡ true
-total_rises n = rises_within n (total_order n) (and_parts _ _ (and_parts _ _ (total_is_order n)).0).0

@@ -4,5 +4,6 @@ pub mod Deciding
 pub mod Linearisation
 pub mod Misfit
 pub mod Order
+pub mod Products
 pub mod Tree
 pub mod WellFormed

@@ -19,7 +19,3 @@ is_within n p = nat_lt p.0 p.1 && nat_lt p.1 n
 -- an order of n kids
 abbrev pub is_order : ℕ → List (ℕ × ℕ) → Bool
 is_order n order = list_all (is_within n) order && is_rising order && is_closed order
-
--- whether each pair has its smaller position first
-abbrev pub have_rising_pairs : List (ℕ × ℕ) → Bool
-have_rising_pairs order = list_all (λ p. nat_lt p.0 p.1) order

@@ -1,9 +1,8 @@
 ghost use Rattle.std.specs.Prelude.{◌≡◌, ◌&&◌, ◌||◌, ◌++◌, ◌<◌, ◌≤◌, [], length, map, IsTrue};
 ghost use Rattle.std.specs.List.{enumerate_from};
 ghost use Rattle.bd_base.specs.Facts.{has};
-ghost use Rattle.bd_base.specs.Pairs.{is_before};
+ghost use Rattle.bd_base.specs.Pairs.{have_rising_pairs, is_before};
 ghost use Rattle.bd_tree.specs.Convex.{is_member, is_after_some, is_before_some, is_aside, are_convex, is_convex_in, SpansMembers};
-ghost use Rattle.bd_tree.specs.Order.{have_rising_pairs};
 ghost use Rattle.bd_tree.specs.Tree.{id_of};
 
 use crate::{Node, Span, span_of};
@@ -148,21 +147,6 @@ fn are_all_aside(order: &PairList, kids: &[Node], members: &Members<'_>) -> bool
         .all(|(k, kid)| stands_aside(order, kids, members, k, kid))
 }
 
-// Whether each pair of the order has its smaller position first, as in a total order of n.
-fn have_rising_pairs(order: &PairList, n: usize) -> bool
-    ensures { result ≡ have_rising_pairs order.now }
-{
-    if order.is_total(n) {
-        return true;
-    }
-    for p in order.iter() {
-        if p.0 >= p.1 {
-            return false;
-        }
-    }
-    true
-}
-
 // The same as `is_after_member`, where pairs rise: only the members below position j are asked.
 fn is_after_earlier(
     order: &PairList,
@@ -228,12 +212,12 @@ fn stands_aside_of_span(
 
 /// Whether the members are convex among the kids: no other kid is after one member and before another.
 ///
-/// Where each pair of the order has its smaller position first, which takes one walk at most to find out, only the kids
-/// between the first member and the last are judged.
+/// Where each pair of the order has its smaller position first, which the order is asked once, only the kids between the
+/// first member and the last are judged.
 pub fn are_together(order: &PairList, kids: &[Node], members: &Members<'_>) -> bool
     ensures { result ≡ are_convex order.now members.now (enumerate_from 0 kids.now) }
 {
-    if !have_rising_pairs(order, kids.len()) {
+    if !order.rises() {
         return are_all_aside(order, kids, members);
     }
     let span = span_of(kids, members);

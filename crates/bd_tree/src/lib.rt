@@ -34,6 +34,8 @@ mod deciding_tests;
 #[cfg(test)]
 mod misfit_tests;
 #[cfg(test)]
+mod pairs_tests;
+#[cfg(test)]
 mod shapes;
 #[cfg(test)]
 mod tests;

@@ -18,7 +18,7 @@ use std::marker::Model;
 pub const MAX_DEPTH: u32 = 64;
 
 // Up to so many positions, a `PairList` whose pairs rise answers at once whether it has a pair.
-const FEW: u32 = 8192;
+pub(crate) const FEW: u32 = 8192;
 
 /// Why a node is no root of a tree: the first cause, in this order.
 #[derive(Clone, Copy, Debug, PartialEq, Eq)]

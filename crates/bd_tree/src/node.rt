@@ -1,3 +1,4 @@
+use crate::misfit::FEW;
 use bd_base::{ActionId, FromItems, Items, NoMemory, NodeId, PairList};
 use std::alloc::Global;
 
@@ -221,13 +222,60 @@ impl Node {
     }
 }
 
-ghost use Rattle.std.specs.Prelude.{◌≡◌, ◌<◌, ◌^◌, ◌↔◌, true, IsTrue, length, map};
+ghost use Rattle.std.specs.Prelude.{◌≡◌, ◌<◌, ◌≤◌, ◌^◌, ◌↔◌, true, IsTrue, length, map};
 ghost use Rattle.std.specs.List.{list_all};
-ghost use Rattle.bd_tree.specs.Order.{is_within};
+ghost use Rattle.bd_tree.specs.Order.{is_order, is_rising, is_within};
+ghost use Rattle.bd_tree.specs.Products.{first_steps, steps_before};
 ghost use Rattle.bd_tree.specs.Tree.{steps_of, total, products};
 
 // How many pairs of steps the order of the kids orders.
+//
+// At first each kid that comes after another counts as one step, so that only the pairs of each position are counted.
+// Then each kid of more or fewer steps is counted again, as what it is, which takes a look at each kid that may be
+// before it. Where the order has few pairs, a walk through them is shorter.
 fn ordered_pairs(kids: &[Node], order: &PairList) -> u64
+    requires few { total (map steps_of kids.now) < 2 ^ 32 }
+    requires ordered { is_order (length kids.now) order.now ≡ true }
+    ensures { result ≡ products order.now (map steps_of kids.now) }
+{
+    if kids.len() > FEW as usize || is_sparse(kids, order) {
+        return walked_pairs(kids, order);
+    }
+    let mut sum = first_steps(kids, order);
+    for k in 0..kids.len() {
+        let steps = kids[k].steps() as u64;
+        if steps != 1 {
+            let before = steps_before(kids, order, k);
+            sum = sum - before + steps * before;
+        }
+    }
+    sum
+}
+
+// Whether a walk through the pairs is shorter than one for each block through the kids before it. These are half of the
+// kids for a block in the middle, and a pair costs about as much as two of them.
+fn is_sparse(kids: &[Node], order: &PairList) -> bool
+    requires { length kids.now ≤ 8192 }
+{
+    let most = blocks_among(kids) * kids.len() / 4;
+    most > 0 && order.len() < most
+}
+
+// How many of the nodes are blocks.
+fn blocks_among(nodes: &[Node]) -> usize
+    ensures { result ≤ length nodes.now }
+{
+    let mut n = 0;
+    for node in nodes {
+        if let Node::Block { .. } = node {
+            n += 1;
+        }
+    }
+    n
+}
+
+// The same by a walk through the pairs.
+fn walked_pairs(kids: &[Node], order: &PairList) -> u64
     requires few { total (map steps_of kids.now) < 2 ^ 32 }
     requires within { list_all (is_within (length kids.now)) order.now ≡ true }
     requires small { products order.now (map steps_of kids.now) < 2 ^ 64 }
@@ -236,6 +284,39 @@ fn ordered_pairs(kids: &[Node], order: &PairList) -> u64
     let mut sum = 0;
     for pair in order.iter() {
         sum += kids[pair.0 as usize].steps() as u64 * kids[pair.1 as usize].steps() as u64;
+    }
+    sum
+}
+
+// For each pair of the order, the first kid's number of steps, added up.
+fn first_steps(kids: &[Node], order: &PairList) -> u64
+    requires few { total (map steps_of kids.now) < 2 ^ 32 }
+    requires short { length kids.now ≤ 8192 }
+    requires within { list_all (is_within (length kids.now)) order.now ≡ true }
+    requires small { first_steps order.now (map steps_of kids.now) < 2 ^ 64 }
+    ensures { result ≡ first_steps order.now (map steps_of kids.now) }
+{
+    let mut sum = 0;
+    for i in 0..kids.len() {
+        sum += kids[i].steps() as u64 * order.after(i as u32).len() as u64;
+    }
+    sum
+}
+
+// How many steps the kids before kid k have.
+fn steps_before(kids: &[Node], order: &PairList, k: usize) -> u64
+    requires few { total (map steps_of kids.now) < 2 ^ 32 }
+    requires short { length kids.now ≤ 8192 }
+    requires below { k < length kids.now }
+    requires within { list_all (is_within (length kids.now)) order.now ≡ true }
+    requires rising { is_rising order.now ≡ true }
+    ensures { result ≡ steps_before order.now (map steps_of kids.now) k }
+{
+    let mut sum = 0;
+    for i in 0..k {
+        if order.has(i as u32, k as u32) {
+            sum += kids[i].steps() as u64;
+        }
     }
     sum
 }

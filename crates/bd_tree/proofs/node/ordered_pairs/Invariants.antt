@@ -1,8 +1,12 @@
-use Rattle.std.proofs.Common.{◌≡◌, ◌+◌, true, map, length}
-use Rattle.std.specs.List.{list_all}
-use Rattle.bd_tree.specs.Order.{is_within}
-use Rattle.bd_tree.specs.Tree.{steps_of, products}
+use Rattle.std.proofs.Common.{◌≡◌, ◌+◌, ◌≤◌, length, map}
+use Rattle.bd_tree.specs.Products.{first_steps, steps_before}
+use Rattle.bd_tree.specs.Tree.{steps_of}
+use Rattle.bd_tree.proofs.ProductLemmas.{column}
+use Rattle.bd_tree.proofs.SumLemmas.{sum_below}
 use Rattle.bd_tree.proofs.node.ordered_pairs.Given as goal
 
-abbrev pub invariant-loop-pair : goal.invariant-loop-pair
-invariant-loop-pair l = (l.sum + products l.pair-iterator (map steps_of l.kids) ≡ products l.order (map steps_of l.kids)) × (list_all (is_within (length l.kids)) l.pair-iterator ≡ true)
+abbrev pub invariant-loop-k : goal.invariant-loop-k
+invariant-loop-k l = record {
+  within : l.k ≤ length l.kids;
+  sum : l.sum + sum_below l.k (steps_before l.order (map steps_of l.kids)) ≡ first_steps l.order (map steps_of l.kids) + sum_below l.k (column (map steps_of l.kids) l.order);
+}

@@ -1,16 +1,13 @@
 use Rattle.std.proofs.Common.{◌≡◌, ◌+◌, arith, map, drop, sym, ◌∙◌, ap}
 use Rattle.bd_tree.specs.Tree.{pairs_of, total}
-use Rattle.bd_tree.proofs.BoundLemmas.{block_few, block_within, block_small, block_pairs, block_nodes, block_ordered, pairs_left, pairs_fit}
+use Rattle.bd_tree.proofs.BoundLemmas.{block_few, block_order, block_pairs, block_nodes, block_ordered, pairs_left, pairs_fit}
 use Rattle.bd_tree.proofs.node.Node.+pairs.Goals as goal
 
 pub ordered_pairs-sum-requires-clause-few : goal.ordered_pairs-sum-requires-clause-few
 ordered_pairs-sum-requires-clause-few t c = block_few c.args.self.now c.in-Block.id c.in-Block.kids _ c.in-Block.order c.in-Block.is c.as_slice.ensures c.requires.small
 
-pub ordered_pairs-sum-requires-clause-within : goal.ordered_pairs-sum-requires-clause-within
-ordered_pairs-sum-requires-clause-within t c = block_within c.args.self.now c.in-Block.id c.in-Block.kids _ c.in-Block.order c.in-Block.is c.as_slice.ensures c.requires.ordered
-
-pub ordered_pairs-sum-requires-clause-small : goal.ordered_pairs-sum-requires-clause-small
-ordered_pairs-sum-requires-clause-small t c = block_small c.args.self.now c.in-Block.id c.in-Block.kids _ c.in-Block.order c.in-Block.is c.as_slice.ensures c.requires.ordered c.requires.small
+pub ordered_pairs-sum-requires-clause-ordered : goal.ordered_pairs-sum-requires-clause-ordered
+ordered_pairs-sum-requires-clause-ordered t c = block_order c.args.self.now c.in-Block.id c.in-Block.kids _ c.in-Block.order c.in-Block.is c.as_slice.ensures c.requires.ordered
 
 pub loop-kid-init : goal.loop-kid-init
 loop-kid-init t c =
