@@ -3,6 +3,7 @@ pub mod IdLemmas
 pub mod KeptLemmas
 pub mod MergeLemmas
 pub mod PartLemmas
+pub mod RowLemmas
 pub mod StandLemmas
 pub mod TurnLemmas
 pub mod WholeLemmas

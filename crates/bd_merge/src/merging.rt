@@ -1,4 +1,4 @@
-ghost use Rattle.std.specs.Prelude.{◌≡◌, ◌+◌, ◌<◌, ◌≤◌, ◌^◌, ◌++◌, length, map, IfOk, IsTrue, OnOk};
+ghost use Rattle.std.specs.Prelude.{◌≡◌, ℕ, ◌+◌, ◌<◌, ◌≤◌, ◌^◌, ◌&&◌, ◌++◌, nat_lt, length, map, IfOk, IsTrue, OnOk};
 ghost use Rattle.std.specs.List.{enumerate_from};
 ghost use Rattle.bd_base.specs.Facts.{has};
 ghost use Rattle.bd_base.specs.Pairs.{total_order};
@@ -9,7 +9,7 @@ ghost use Rattle.bd_merge.specs.FrontEnd.{IsFrontEnd};
 ghost use Rattle.bd_merge.specs.Merged.{goes_first, is_front, is_back, fronts, backs, is_ordered, is_kept, merged_order, merged_block, merged, Exchanges};
 
 use crate::{Found, Lean, Window};
-use bd_base::{ActionId, FromItems, Items, NoMemory, NodeId, PairList};
+use bd_base::{ActionId, FromItems, Items, NoMemory, NodeId, OwnedRow, PairList};
 use bd_tree::{Members, Node, Tree, comes_before, is_after_member, is_before_member, span_of};
 use std::alloc::Global;
 
@@ -193,7 +193,22 @@ fn is_kept_pair(order: &PairList, places: &[Place], pair: (u32, u32)) -> bool
     }
 }
 
-// The new order; where it is known that every pair is kept, none is asked for.
+// The later positions that what stands at a position is before.
+fn row_of(alloc: Global, order: &PairList, places: &[Place], a: u32) -> Result<OwnedRow, NoMemory>
+    requires few { length places.now < 2 ^ 32 }
+    requires within { a < length places.now }
+    ensures { IfOk result (λ row. (q : ℕ) → has row q ≡ (nat_lt a q && is_kept order.now places.now (a, q))) }
+{
+    let mut row = OwnedRow::new(alloc);
+    for b in a + 1..places.len() as u32 {
+        if is_kept_pair(order, places, (a, b)) {
+            row.put(b)?;
+        }
+    }
+    Ok(row)
+}
+
+// The new order, row by row; where it is known that every pair is kept, none is asked for.
 fn new_order(
     alloc: Global,
     order: &PairList,
@@ -204,17 +219,16 @@ fn new_order(
     requires all { IsTrue keeps_all → merged_order order.now places.now ≡ total_order (length places.now) }
     ensures { IfOk result (λ o. o ≡ merged_order order.now places.now) }
 {
-    let all = PairList::total(alloc, places.len() as u32)?;
+    let count = places.len() as u32;
     if keeps_all {
-        return Ok(all);
+        return PairList::total(alloc, count);
     }
-    let mut kept = Vec::new(alloc);
-    for pair in all.iter() {
-        if is_kept_pair(order, places, pair) {
-            kept.push(pair)?;
-        }
+    let mut made = PairList::new(alloc);
+    for a in 0..count {
+        let row = row_of(alloc, order, places, a)?;
+        made.put_row(alloc, a, &row.row())?;
     }
-    PairList::of(alloc, &kept)
+    Ok(made)
 }
 
 // The window's block, where it has these kids and this order.

@@ -79,7 +79,7 @@ module _ (t : ℕ × Node → Bool) where
       by true (suc i) (suc j) later e f = let less = later i j e f in omega arith
       by false i j later e f = later i j e f
 
-  all_pass : (ks : List (ℕ × Node)) → list_all t (filter t ks) ≡ true
+  pub all_pass : (ks : List (ℕ × Node)) → list_all t (filter t ks) ≡ true
   all_pass [] = refl
   all_pass (k ∷ ks) = by (t k) refl (all_pass ks)
     where
@@ -88,12 +88,12 @@ module _ (t : ℕ × Node → Bool) where
       by false e a = a
 
 -- what stands at a position: a kid in front, the group or a kid behind
-data Stands (fs bs : List (ℕ × Node)) (i : ℕ) (x : Place) : Type 0 where
+pub data Stands (fs bs : List (ℕ × Node)) (i : ℕ) (x : Place) : Type 0 where
   front : (k : ℕ × Node) → slice_get fs i ≡ Some k → i < length fs → x ≡ Outside k.0 → Stands fs bs i x
   group : i ≡ length fs → x ≡ Group → Stands fs bs i x
   back : (m : ℕ) (k : ℕ × Node) → slice_get bs m ≡ Some k → i ≡ length fs + 1 + m → x ≡ Outside k.0 → Stands fs bs i x
 
-located : (fs bs : List (ℕ × Node)) (i : ℕ) (x : Place) → slice_get (places_of fs ++ Group ∷ [] ++ places_of bs) i ≡ Some x → Stands fs bs i x
+pub located : (fs bs : List (ℕ × Node)) (i : ℕ) (x : Place) → slice_get (places_of fs ++ Group ∷ [] ++ places_of bs) i ≡ Some x → Stands fs bs i x
 located [] bs zero x e =
     let same : Group ≡ x = cc in
     group refl (sym same)

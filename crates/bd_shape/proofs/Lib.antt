@@ -7,11 +7,13 @@ pub mod ExactLemmas
 pub mod GroupLemmas
 pub mod KidLemmas
 pub mod OrderLemmas
+pub mod PairLemmas
 pub mod PartLemmas
 pub mod PlaceLemmas
 pub mod PlacedLemmas
 pub mod RemadeLemmas
 pub mod ResultLemmas
+pub mod RunLemmas
 pub mod SideLemmas
 pub mod TimesLemmas
 pub mod UnorderLemmas

@@ -113,7 +113,7 @@ module _ (q : ℕ) where
       (λ id a. omega (arith, ap (λ z. one_if (eqb z q)) (id_of-Step id a), times_in-Step q id a))
       (λ id kids order e. omega (arith, ap (λ z. one_if (eqb z q)) (id_of-Block id kids order), times_in-Block q id kids order))
 
-  own_ids : (kids : List Node) → times q (map id_of kids) ≤ total (map (times_in q) kids)
+  pub own_ids : (kids : List Node) → times q (map id_of kids) ≤ total (map (times_in q) kids)
   own_ids [] = omega arith
   own_ids (k ∷ ks) = omega (arith, has_own_id k, own_ids ks)
 

@@ -1,7 +1,7 @@
 -- How an order is made anew for places of a new listing.
 use Rattle.std.specs.List.{filter, list_any}
 use Rattle.std.specs.Option.{option_map_or}
-use Rattle.std.specs.Prelude.{get_or, nat_lt, ◌≡◌, ℕ, ◌<◌, Bool, true, false, ◌&&◌, ◌||◌, ◌==◌, List, [], ◌∷◌, length, Option, Some, None, slice_get}
+use Rattle.std.specs.Prelude.{get_or, nat_lt, ◌≡◌, ℕ, ◌<◌, Bool, true, false, not, ◌&&◌, ◌||◌, ◌==◌, List, [], ◌∷◌, length, Option, Some, None, slice_get}
 use Rattle.bd_base.specs.Facts.{has}
 use Rattle.bd_base.specs.Pairs.{after_of, is_before, total_order}
 use Rattle.bd_shape.specs.declared.place.Place.{Place}
@@ -64,6 +64,16 @@ AreSpots places spots = (d q : ℕ) → is_spot spots d q ≡ option_map_or (is_
 abbrev pub IsLow : ℕ → Place → Type 0
 IsLow bound (Outside d) = d < bound
 IsLow bound Group = Unit {0}
+
+-- where a listing is cut: the group stands there, if at all, and of the kids those from there on, and they alone, are
+-- after some kid of the group
+abbrev pub IsSplitAt : Sides → ℕ → ℕ → Option Place → Type 0
+IsSplitAt sides cut q None = Unit {0}
+IsSplitAt sides cut q (Some (Outside d)) = has sides.after d ≡ not (nat_lt q cut)
+IsSplitAt sides cut q (Some Group) = q ≡ cut
+
+abbrev pub AreSplit : Sides → List Place → ℕ → Type 0
+AreSplit sides places cut = (q : ℕ) → IsSplitAt sides cut q (slice_get places q)
 
 -- whether the first may be before others by way of the group
 abbrev pub leads : Sides → Place → Bool

@@ -110,7 +110,7 @@ fn put_backs(
     Ok(())
 }
 
-// The order of the new block, where these are its places.
+// The order of the new block, where these are its places, and the group stands at this one.
 fn new_order(
     alloc: Global,
     ids: &[NodeId],
@@ -118,12 +118,14 @@ fn new_order(
     sides: &Sides,
     kids: &[Node],
     places: &[Place],
+    cut: u32,
 ) -> Result<PairList, NoMemory>
     requires sides { AreSides order.now ids.now kids.now sides.now }
     requires places { places.now ≡ grouped_places ids.now order.now (enumerate_from 0 kids.now) }
+    requires cut { cut ≡ length (fronts ids.now order.now (enumerate_from 0 kids.now)) }
     ensures { IfOk result (λ o. o ≡ grouped_order ids.now order.now (enumerate_from 0 kids.now) places.now) }
 {
-    placed_order(alloc, order, sides, places, kids.len())
+    placed_order(alloc, order, sides, places, kids.len(), cut)
 }
 
 // The block with these kids and this order, where the kids with these ids are one block.
@@ -141,10 +143,11 @@ fn new_block(
     let mut places = Vec::new(alloc);
     let sides = sides_of(alloc, order, kids, ids)?;
     put_fronts(alloc, ids, order, &sides, kids, &mut copies, &mut places)?;
+    let cut = position(places.len())?;
     copies.push(restricted_block(alloc, fresh, kids, order, ids)?)?;
     places.push(Place::Group)?;
     put_backs(alloc, ids, order, &sides, kids, &mut copies, &mut places)?;
-    let order = new_order(alloc, ids, order, &sides, kids, &places)?;
+    let order = new_order(alloc, ids, order, &sides, kids, &places, cut)?;
     Ok(Node::Block {
         id: block,
         kids: Items::of(copies),

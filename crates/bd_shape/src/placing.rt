@@ -1,7 +1,7 @@
-ghost use Rattle.std.specs.Prelude.{◌≡◌, ℕ, ◌<◌, ◌||◌, ◌&&◌, ◌++◌, Some, None, nat_lt, get_or, length, map, slice_get, if◌then◌else◌, IfOk, OnOk};
+ghost use Rattle.std.specs.Prelude.{◌≡◌, ℕ, ◌<◌, ◌||◌, ◌&&◌, Some, None, nat_lt, get_or, length, slice_get, if◌then◌else◌, IfOk, OnOk};
 ghost use Rattle.std.specs.List.{enumerate_from, list_any};
 ghost use Rattle.bd_base.specs.Facts.{has};
-ghost use Rattle.bd_shape.specs.Placed.{AreApart, AreSpots, IsLow, are_placed, is_kid, is_put_through, is_spot, is_through, leads, placed_order, was_put};
+ghost use Rattle.bd_shape.specs.Placed.{AreApart, AreSplit, AreSpots, IsLow, are_placed, is_kid, is_put_through, is_spot, leads, placed_order, was_put};
 
 use crate::place::Place;
 use crate::sides::{Sides, position};
@@ -9,24 +9,27 @@ use bd_base::{NoMemory, OwnedRow, PairList, Row};
 use std::alloc::Global;
 
 /// The order of the places of a new listing, row by row: two kids outside the group are ordered as they were or by
-/// way of the group, whose sides these are. There were so many kids.
+/// way of the group, whose sides these are. There were so many kids. Where the listing is cut, the group stands, if at
+/// all, and the kids behind it are those after some kid of it.
 pub fn placed_order(
     alloc: Global,
     order: &PairList,
     sides: &Sides,
     places: &[Place],
     kids: usize,
+    cut: u32,
 ) -> Result<PairList, NoMemory>
-    requires { AreApart kids places.now }
+    requires apart { AreApart kids places.now }
+    requires split { AreSplit sides.now places.now cut }
     ensures { IfOk result (λ o. o ≡ placed_order order.now sides.now places.now) }
 {
     let spots = spots_of(alloc, places, kids)?;
-    let mut pairs = Vec::new(alloc);
+    let mut made = PairList::new(alloc);
     for a in 0..places.len() {
-        let row = row_of(alloc, order, sides, places, &spots, a)?;
-        push_row(&mut pairs, position(a)?, &row.row())?;
+        let row = row_of(alloc, order, sides, places, &spots, cut, a)?;
+        made.put_row(alloc, position(a)?, &row.row())?;
     }
-    PairList::of(alloc, &pairs)
+    Ok(made)
 }
 
 // Where each old kid stands now, by its old position.
@@ -104,22 +107,6 @@ fn put_after(
     }
 }
 
-// Whether the two are ordered by way of the group.
-fn is_through(sides: &Sides, first: Place, second: Place) -> bool
-    ensures { result ≡ is_through sides.now first second }
-{
-    match first {
-        Place::Outside(c) => match second {
-            Place::Outside(d) => sides.before.row().has(c) && sides.after.row().has(d),
-            Place::Group => sides.before.row().has(c),
-        },
-        Place::Group => match second {
-            Place::Outside(d) => sides.after.row().has(d),
-            Place::Group => false,
-        },
-    }
-}
-
 // Whether the place may be before others by way of the group.
 fn leads(sides: &Sides, first: Place) -> bool
     ensures { result ≡ leads sides.now first }
@@ -130,40 +117,24 @@ fn leads(sides: &Sides, first: Place) -> bool
     }
 }
 
-// Puts the position in, if it is a later one and ordered by way of the group.
-fn put_place(
-    row: &mut OwnedRow,
-    sides: &Sides,
-    first: Place,
-    at: u32,
-    second: Place,
-    later: u32,
-) -> Result<(), NoMemory>
-    ensures { OnOk result ((q : ℕ) → has row.new q ≡ (has row.old q || (nat_lt at q && is_put_through sides.now first q (later, second)))) }
-{
-    if later > at && is_through(sides, first, second) {
-        row.put(later)?;
-    }
-    Ok(())
-}
-
-// Puts the later positions in that are ordered by way of the group.
+// Puts the later positions in that are ordered by way of the group: where the first leads to it, all from the cut on.
 fn put_through(
     row: &mut OwnedRow,
     sides: &Sides,
     places: &[Place],
+    cut: u32,
     first: Place,
     at: u32,
 ) -> Result<(), NoMemory>
+    requires split { AreSplit sides.now places.now cut }
+    requires first { slice_get places.now at ≡ Some first }
     ensures { OnOk result ((q : ℕ) → has row.new q ≡ (has row.old q || list_any (λ k. nat_lt at q && is_put_through sides.now first q k) (enumerate_from 0 places.now))) }
 {
     if !leads(sides, first) {
         return Ok(());
     }
-    for (later, place) in places.iter().enumerate() {
-        put_place(row, sides, first, at, *place, position(later)?)?;
-    }
-    Ok(())
+    let end = position(places.len())?;
+    row.put_run(cut.max(at + 1), end)
 }
 
 // The later positions that the one at a position is before.
@@ -173,9 +144,11 @@ fn row_of(
     sides: &Sides,
     places: &[Place],
     spots: &[Option<u32>],
+    cut: u32,
     a: usize,
 ) -> Result<OwnedRow, NoMemory>
     requires spots { AreSpots places.now spots.now }
+    requires split { AreSplit sides.now places.now cut }
     requires within { a < length places.now }
     ensures { IfOk result (λ row. (q : ℕ) → has row q ≡ (nat_lt a q && are_placed order.now sides.now (slice_get places.now a) (slice_get places.now q))) }
 {
@@ -183,16 +156,6 @@ fn row_of(
     let first = places[a];
     let mut row = OwnedRow::new(alloc);
     put_after(&mut row, order, spots, first, at)?;
-    put_through(&mut row, sides, places, first, at)?;
+    put_through(&mut row, sides, places, cut, first, at)?;
     Ok(row)
-}
-
-// Adds the pairs of a position with those of a row.
-fn push_row(pairs: &mut Vec<(u32, u32)>, a: u32, row: &Row<'_>) -> Result<(), NoMemory>
-    ensures { OnOk result (pairs.new.items ≡ pairs.old.items ++ map (λ b. (a, b)) row.now) }
-{
-    for b in row.iter() {
-        pairs.push((a, b))?;
-    }
-    Ok(())
 }

@@ -86,5 +86,6 @@ fn restricted_order(
     ensures { IfOk result (λ o. o ≡ restricted_order order.now (map (λ k. k.0) (members ids.now (enumerate_from 0 kids.now)))) }
 {
     let none = no_sides(alloc);
-    placed_order(alloc, order, &none, places, kids.len())
+    let cut = position(places.len())?;
+    placed_order(alloc, order, &none, places, kids.len(), cut)
 }

@@ -1,10 +1,10 @@
-ghost use Rattle.std.specs.Prelude.{◌≡◌, ℕ, [], IfOk, OnOk};
+ghost use Rattle.std.specs.Prelude.{◌≡◌, ℕ, [], IfOk};
 ghost use Rattle.std.specs.List.{enumerate_from};
-ghost use Rattle.bd_base.specs.Facts.{has, plus};
+ghost use Rattle.bd_base.specs.Facts.{has};
 ghost use Rattle.bd_tree.specs.Convex.{is_after_some, is_before_some};
 ghost use Rattle.bd_shape.specs.Sides.{AreSides};
 
-use bd_base::{NoMemory, NodeId, OwnedRow, PairList, Row};
+use bd_base::{NoMemory, NodeId, OwnedRow, PairList};
 use bd_tree::{Members, Node};
 use std::alloc::Global;
 
@@ -51,16 +51,6 @@ pub fn position(at: usize) -> Result<u32, NoMemory>
     }
 }
 
-// Puts the positions of a row in.
-fn put_row(row: &mut OwnedRow, of: &Row<'_>) -> Result<(), NoMemory>
-    ensures { OnOk result (row.new ≡ plus row.old of.now) }
-{
-    for at in of.iter() {
-        row.put(at)?;
-    }
-    Ok(())
-}
-
 // The positions after some kid with one of the ids.
 fn after_members(
     alloc: Global,
@@ -74,7 +64,7 @@ fn after_members(
     let mut row = OwnedRow::new(alloc);
     for (at, kid) in kids.iter().enumerate() {
         if members.has(kid.id()) {
-            put_row(&mut row, &order.after(position(at)?))?;
+            row.join(&order.after(position(at)?))?;
         }
     }
     Ok(row)
@@ -93,7 +83,7 @@ fn before_members(
     let mut row = OwnedRow::new(alloc);
     for (at, kid) in kids.iter().enumerate() {
         if members.has(kid.id()) {
-            put_row(&mut row, &order.before(alloc, position(at)?)?.row())?;
+            row.join(&order.before(alloc, position(at)?)?.row())?;
         }
     }
     Ok(row)

@@ -1,9 +1,11 @@
-ghost use Rattle.std.specs.Prelude.{◌≡◌, ◌&&◌, map, IfOk};
-ghost use Rattle.bd_tree.specs.Tree.{ids_of, depth_of, steps_of, nodes_of, listed_of};
+ghost use Rattle.std.specs.Prelude.{◌≡◌, ◌==◌, true, map, position, IfOk};
+ghost use Rattle.bd_tree.specs.Tree.{id_of, ids_of, depth_of, steps_of, nodes_of, listed_of};
+ghost use Rattle.bd_tree.specs.WellFormed.{are_distinct};
 ghost use Rattle.bd_shape.specs.Kids.{kids_at};
 ghost use Rattle.bd_shape.specs.Measures.{AddUpAlike};
-ghost use Rattle.bd_shape.specs.Unordered.{CanUnorder, stands_at, unordered_pairs, unordered_block, unordered};
+ghost use Rattle.bd_shape.specs.Unordered.{CanUnorder, unordered_pairs, unordered_block, unordered};
 
+use crate::sides::position;
 use bd_base::{FromItems, Items, NoMemory, NodeId, PairList};
 use bd_tree::{Node, Tree};
 use std::alloc::Global;
@@ -29,14 +31,11 @@ pub fn unorder(
     Ok(Tree::of(new_node(alloc, block, i, j, tree.root())?))
 }
 
-// Whether the kid with the id stands at the position.
-fn stands_at(kids: &[Node], id: NodeId, at: u32) -> bool
-    ensures { result ≡ stands_at kids.now id at }
+// Where the first kid with the id stands, if one does.
+fn place_of(kids: &[Node], id: NodeId) -> Option<usize>
+    ensures { result ≡ position (λ kid. id_of kid == id) kids.now }
 {
-    match kids.get(at as usize) {
-        None => false,
-        Some(kid) => kid.id() == id,
-    }
+    kids.iter().position(|kid| kid.id() == id)
 }
 
 // The order without the pair that says that kid i is before kid j.
@@ -47,15 +46,16 @@ fn unordered_pairs(
     i: NodeId,
     j: NodeId,
 ) -> Result<PairList, NoMemory>
+    requires { are_distinct (map id_of kids.now) ≡ true }
     ensures { IfOk result (λ o. o ≡ unordered_pairs i j kids.now order.now) }
 {
-    let mut kept = Vec::new(alloc);
-    for pair in order.iter() {
-        if !(stands_at(kids, i, pair.0) && stands_at(kids, j, pair.1)) {
-            kept.push(pair)?;
-        }
+    match place_of(kids, i) {
+        None => order.try_copy(alloc),
+        Some(a) => match place_of(kids, j) {
+            None => order.try_copy(alloc),
+            Some(b) => order.without(alloc, position(a)?, position(b)?),
+        },
     }
-    PairList::of(alloc, &kept)
 }
 
 // The node in which the kids of the block are unordered.
@@ -66,6 +66,7 @@ fn new_node(
     j: NodeId,
     node: &Node,
 ) -> Result<Node, NoMemory>
+    requires distinct { are_distinct (ids_of node.now) ≡ true }
     ensures { IfOk result (λ n. n ≡ unordered node.now block i j) }
 {
     match node {
@@ -110,6 +111,7 @@ fn new_block(
     kids: &[Node],
     order: &PairList,
 ) -> Result<Node, NoMemory>
+    requires { are_distinct (map id_of kids.now) ≡ true }
     ensures { IfOk result (λ n. n ≡ unordered_block block i j kids.now order.now) }
 {
     let copies = copied(alloc, kids)?;

@@ -3,7 +3,7 @@ use Rattle.bd_base.specs.Facts.{has, plus}
 use Rattle.bd_base.specs.Pairs.{is_before, after_of}
 use Rattle.bd_tree.specs.Tree.{id_of}
 use Rattle.bd_shape.proofs.SideLemmas.{one_member, no_member, with_after}
-use Rattle.bd_shape.proofs.sides.after_members.Goals.{then-has+in_ok-position+in_ok-put_row, else-has}
+use Rattle.bd_shape.proofs.sides.after_members.Goals.{then-has+in_ok-position+in_ok-join, else-has}
 use Rattle.bd_shape.proofs.sides.after_members.Goals as goal
 
 pub loop-at-preserved : goal.loop-at-preserved
@@ -13,8 +13,8 @@ loop-at-preserved c =
     let f = λ (a q : ℕ). is_before order a q in
     let told : has c.args.ids.now (id_of kid) ≡ c.has.result = ap (λ z. has z (id_of kid)) (sym c.of_ids-members.ensures) ∙ ap (has c.of_ids-members.result) (sym c.id.ensures) ∙ sym c.has.ensures in
     elim c.if-has.branch [
-      | then-has+in_ok-position+in_ok-put_row w ↦
-          let grown : c.if-has.row ≡ plus c.loop-at.row (after_of order c.loop-at.at) = w.row-is ∙ w.in_ok-put_row.ensures ∙ ap (plus c.loop-at.row) (w.after.ensures ∙ ap (after_of order) w.in_ok-position.ensures) in
+      | then-has+in_ok-position+in_ok-join w ↦
+          let grown : c.if-has.row ≡ plus c.loop-at.row (after_of order c.loop-at.at) = w.row-is ∙ w.in_ok-join.ensures ∙ ap (plus c.loop-at.row) (w.after.ensures ∙ ap (after_of order) w.in_ok-position.ensures) in
           one_member f c.args.ids.now c.args.kids.now c.loop-at.at kid c.loop-at-test.true c.index-kids-at.is c.loop-at.row c.if-has.row c.loop-at.invariant (told ∙ w.if-has.true) (with_after order c.loop-at.at c.loop-at.row c.if-has.row grown)
       | else-has w ↦ no_member f c.args.ids.now c.args.kids.now c.loop-at.at kid c.loop-at-test.true c.index-kids-at.is c.loop-at.row c.if-has.row c.loop-at.invariant (told ∙ w.if-has.false) w.row-is
     ]

@@ -1,0 +1,127 @@
+-- Pairs that pass a test, row by row.
+use Rattle.std.proofs.Common.{◌≡◌, ℕ, zero, suc, ◌+◌, ◌-◌, ◌<◌, ◌≤◌, Bool, true, false, ◌&&◌, ◌||◌, ltb, eqb, cond, List, [], ◌∷◌, ◌++◌, length, map, filter, Option, Some, None, slice_get, refl, sym, ap, ◌∙◌, inl, inr, append_assoc, arith}
+use Rattle.std.proofs.lemmas.Bool.{eq-eqb, ne_eqb, cases_eq, cases_lt, lt-ltb, le-ltb}
+use Rattle.std.proofs.lemmas.List.Elements.{filter-append}
+use Rattle.std.proofs.lemmas.Option.{slice_get_past}
+use Rattle.bd_base.specs.Bits.{upto}
+use Rattle.bd_base.specs.Facts.{IsBelowAll, IsRising, has, insert_fact}
+use Rattle.bd_base.specs.Pairs.{before_each, in_turn}
+use Rattle.bd_base.proofs.FactLemmas.{has-insert_fact}
+use Rattle.bd_base.proofs.MeetLemmas.{filter_by}
+use Rattle.bd_base.proofs.RunLemmas.{has_upto_below, has_upto_in}
+use Rattle.bd_merge.specs.Merged.{are_ordered, is_kept}
+use Rattle.bd_merge.specs.declared.merging.Place.{Place}
+
+and_false : (b : Bool) → (b && false) ≡ false
+and_false true = refl
+and_false false = refl
+
+and_true : (b : Bool) → b ≡ (b && true)
+and_true true = refl
+and_true false = refl
+
+-- no position is above a and below the next one
+pub row_start : (passes : ℕ → Bool) (a : ℕ) (row : List ℕ) → row ≡ [] → (q : ℕ) → has row q ≡ (ltb a q && (ltb q (a + 1) && passes q))
+row_start passes a row e q = ap (λ (z : List ℕ). has z q) e ∙ sym (elim (cases_lt a q) [
+  | inl up ↦ ap (λ z. ltb a q && (z && passes q)) (le-ltb q (a + 1) (omega arith)) ∙ and_false (ltb a q)
+  | inr le ↦ ap (λ z. z && (ltb q (a + 1) && passes q)) (le-ltb a q le)
+])
+
+-- the positions above a and below b that pass, with one more
+module _ (passes : ℕ → Bool) (a b : ℕ) (lt : a < b) where
+  abbrev pub HasBelow : List ℕ → ℕ → Type 0
+  HasBelow row b = (q : ℕ) → has row q ≡ (ltb a q && (ltb q b && passes q))
+
+  below_next : (q : ℕ) → (b ≡ q → ⊥) → ltb q b ≡ ltb q (b + 1)
+  below_next q ne = elim (cases_lt q b) [
+    | inl less ↦ lt-ltb q b less ∙ sym (lt-ltb q (b + 1) (omega arith))
+    | inr le ↦ le-ltb q b le ∙ sym (le-ltb q (b + 1) (omega (arith, ne)))
+  ]
+
+  pub row_put : (row new : List ℕ) → HasBelow row b → passes b ≡ true → new ≡ insert_fact b row → HasBelow new (b + 1)
+  row_put row new so_far pass e q =
+      ap (λ (z : List ℕ). has z q) e
+      ∙ has-insert_fact b row q
+      ∙ elim (cases_eq b q) [
+        | inl same ↦
+            ap (λ z. z || has row q) (eq-eqb b q same)
+            ∙ sym (ap (λ z. z && (ltb q (b + 1) && passes q)) (lt-ltb a q (omega (arith, same))) ∙ ap (λ z. z && passes q) (lt-ltb q (b + 1) (omega (arith, same))) ∙ ap passes (sym same) ∙ pass)
+        | inr ne ↦ ap (λ z. z || has row q) (ne_eqb b q ne) ∙ so_far q ∙ ap (λ z. ltb a q && (z && passes q)) (below_next q ne)
+      ]
+
+  pub row_passed : (row new : List ℕ) → HasBelow row b → passes b ≡ false → new ≡ row → HasBelow new (b + 1)
+  row_passed row new so_far pass e q =
+      ap (λ (z : List ℕ). has z q) e
+      ∙ so_far q
+      ∙ elim (cases_eq b q) [
+        | inl same ↦
+            let none : passes q ≡ false = ap passes (sym same) ∙ pass in
+            ap (λ z. ltb a q && (ltb q b && z)) none ∙ ap (λ z. ltb a q && z) (and_false (ltb q b) ∙ sym (and_false (ltb q (b + 1)))) ∙ ap (λ z. ltb a q && (ltb q (b + 1) && z)) (sym none)
+        | inr ne ↦ ap (λ z. ltb a q && (z && passes q)) (below_next q ne)
+      ]
+
+-- ---- rows of an order
+
+below_upto : (x a k : ℕ) → x < a → IsBelowAll x (upto a k)
+below_upto x a zero lt = tt
+below_upto x a (suc k) lt = (lt, below_upto x (a + 1) k (omega arith))
+
+rising_upto : (a k : ℕ) → IsRising (upto a k)
+rising_upto a zero = tt
+rising_upto a (suc k) = (below_upto a (a + 1) k (omega arith), rising_upto (a + 1) k)
+
+module _ (order : List (ℕ × ℕ)) (places : List Place) where
+  abbrev passes : ℕ × ℕ → Bool
+  passes p = is_kept order places p
+
+  row_filter : (a j k : ℕ) → filter passes (before_each a j k) ≡ map (λ b. (a, b)) (filter (λ b. passes (a, b)) (upto j k))
+  row_filter a j zero = refl
+  row_filter a j (suc k) = one (passes (a, j)) (row_filter a (j + 1) k)
+    where
+      one : (c : Bool) → filter passes (before_each a (j + 1) k) ≡ map (λ b. (a, b)) (filter (λ b. passes (a, b)) (upto (j + 1) k)) → cond c ((a, j) ∷ filter passes (before_each a (j + 1) k)) (filter passes (before_each a (j + 1) k)) ≡ map (λ b. (a, b)) (cond c (j ∷ filter (λ b. passes (a, b)) (upto (j + 1) k)) (filter (λ b. passes (a, b)) (upto (j + 1) k)))
+      one true more = ap (λ (z : List (ℕ × ℕ)). (a, j) ∷ z) more
+      one false more = more
+
+  none_past : (a q : ℕ) → length places ≤ q → passes (a, q) ≡ false
+  none_past a q past = ap (are_ordered order (slice_get places a)) (slice_get_past places q past) ∙ nothing (slice_get places a)
+    where
+      nothing : (o : Option Place) → are_ordered order o None ≡ false
+      nothing None = refl
+      nothing (Some x) = refl
+
+  -- a row that has come to the last position
+  pub row_whole : (a b : ℕ) (row : List ℕ) → length places ≤ b → ((q : ℕ) → has row q ≡ (ltb a q && (ltb q b && passes (a, q)))) → (q : ℕ) → has row q ≡ (ltb a q && passes (a, q))
+  row_whole a b row past so_far q = so_far q ∙ ap (λ z. ltb a q && z) (elim (cases_lt q b) [
+    | inl less ↦ ap (λ z. z && passes (a, q)) (lt-ltb q b less)
+    | inr le ↦ ap (λ z. z && passes (a, q)) (le-ltb q b le) ∙ sym (none_past a q (omega (arith, le)))
+  ])
+
+  module _ (a : ℕ) (lt : a < length places) (row : List ℕ) (rising : IsRising row) (holds : (q : ℕ) → has row q ≡ (ltb a q && passes (a, q))) where
+    abbrev behind : List ℕ
+    behind = upto (a + 1) (length places - (a + 1))
+
+    in_all : (q : ℕ) → has row q ≡ (passes (a, q) && has behind q)
+    in_all q = holds q ∙ elim (cases_lt a q) [
+      | inl up ↦ elim (cases_lt q (length places)) [
+        | inl below ↦ ap (λ z. z && passes (a, q)) (lt-ltb a q up) ∙ and_true (passes (a, q)) ∙ ap (λ z. passes (a, q) && z) (sym (has_upto_in (a + 1) (length places - (a + 1)) q (omega (arith, up)) (omega (arith, below))))
+        | inr past ↦ ap (λ z. ltb a q && z) (none_past a q past) ∙ and_false (ltb a q) ∙ sym (ap (λ z. z && has behind q) (none_past a q past))
+      ]
+      | inr le ↦ ap (λ z. z && passes (a, q)) (le-ltb a q le) ∙ sym (ap (λ z. passes (a, q) && z) (has_upto_below (a + 1) (length places - (a + 1)) q (omega (arith, le))) ∙ and_false (passes (a, q)))
+    ]
+
+    row_is : map (λ b. (a, b)) row ≡ filter passes (before_each a (a + 1) (length places - (a + 1)))
+    row_is =
+        ap (map (λ b. (a, b))) (filter_by behind row (λ b. passes (a, b)) (rising_upto (a + 1) (length places - (a + 1))) rising in_all)
+        ∙ sym (row_filter a (a + 1) (length places - (a + 1)))
+
+    -- one row more of an order
+    pub one_row : (pairs new all : List (ℕ × ℕ)) → pairs ++ filter passes (in_turn a (length places - a)) ≡ all → new ≡ pairs ++ map (λ b. (a, b)) row → new ++ filter passes (in_turn (a + 1) (length places - (a + 1))) ≡ all
+    one_row pairs new all so_far e =
+        let rest = in_turn (a + 1) (length places - (a + 1)) in
+        let here = before_each a (a + 1) (length places - (a + 1)) in
+        let next : length places - a ≡ suc (length places - (a + 1)) = omega (arith, lt) in
+        ap (λ (z : List (ℕ × ℕ)). z ++ filter passes rest) (e ∙ ap (λ (z : List (ℕ × ℕ)). pairs ++ z) row_is)
+        ∙ append_assoc pairs (filter passes here) (filter passes rest)
+        ∙ ap (λ (z : List (ℕ × ℕ)). pairs ++ z) (sym (filter-append passes here rest))
+        ∙ ap (λ z. pairs ++ filter passes (in_turn a z)) (sym next)
+        ∙ so_far
