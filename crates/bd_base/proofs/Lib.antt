@@ -6,6 +6,7 @@ pub mod FactLemmas
 pub mod MeetLemmas
 pub mod PairLemmas
 pub mod PutLemmas
+pub mod RemoveLemmas
 pub mod RowLemmas
 pub mod RunLemmas
 pub mod SetLemmas

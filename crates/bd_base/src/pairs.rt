@@ -104,6 +104,16 @@ impl PairList {
         walk_without(alloc, self, i, j)
     }
 
+    /// Takes a pair out, wherever it stands. It takes no memory; where the pairs are stored as rows it touches one word.
+    pub fn remove(&mut self, i: u32, j: u32)
+        ensures { self.new ≡ without_pair i j self.old }
+    {
+        match &mut self.form {
+            Form::Listed(pairs) => pairs.retain(|p| !(p.0 == i && p.1 == j)),
+            Form::InRows(rows) => rows.remove(i, j),
+        }
+    }
+
     /// Whether each pair has its smaller position first.
     pub fn rises(&self) -> bool
         ensures { result ≡ have_rising_pairs self.now }

@@ -1,9 +1,9 @@
 // An order of less than 8192 positions as rows of words: row i holds the positions that i is before.
 ghost use Rattle.std.specs.Prelude.{◌≡◌, ◌↔◌, ℕ, ◌+◌, ◌-◌, ◌*◌, ◌<◌, ◌≤◌, ◌++◌, ◌∷◌, [], List, true, false, max, map, length, IfOk, IfSome, OnOk, IsTrue, slice_get};
 ghost use Rattle.bd_base.specs.Bits.{row_of};
-ghost use Rattle.bd_base.specs.Facts.{plus};
+ghost use Rattle.bd_base.specs.Facts.{plus, remove_fact};
 ghost use Rattle.bd_base.specs.Pairs.{after_of, before_of, have_rising_pairs, is_before, total_order, without_pair};
-ghost use Rattle.bd_base.specs.Rows.{AreSpans, pairs_of, pairs_with, words_at};
+ghost use Rattle.bd_base.specs.Rows.{AreInTurn, AreSpans, IsApart, pairs_of, pairs_with, words_at};
 
 use crate::NoMemory;
 use crate::owned_row::OwnedRow;
@@ -35,19 +35,20 @@ pub(crate) struct Rows {
 
 impl Model for Rows {
     ghost use Rattle.std.specs.Prelude.{List, ℕ, ◌+◌, ◌≤◌, length};
-    ghost use Rattle.bd_base.specs.Rows.{AreSpans, pairs_of};
+    ghost use Rattle.bd_base.specs.Rows.{AreInTurn, AreSpans, pairs_of};
 
     ghost Value = { List (ℕ × ℕ) };
 
     ghost view = { λ r. pairs_of r.words.items r.first r.spans.items };
 
-    ghost invariant = { λ r. (r.first + length r.spans.items ≤ 8192) × AreSpans (length r.words.items) r.spans.items };
+    ghost invariant = { λ r. (r.first + length r.spans.items ≤ 8192) × AreSpans (length r.words.items) r.spans.items × AreInTurn 0 r.spans.items };
 }
 
 // Adds rows without a position until there are n.
 fn pass_rows(spans: &mut Vec<Span>, n: usize) -> Result<(), NoMemory>
     ensures same { (words : List ℕ) (i : ℕ) → pairs_of words i spans.new.items ≡ pairs_of words i spans.old.items }
     ensures fits { (size : ℕ) → AreSpans size spans.old.items → AreSpans size spans.new.items }
+    ensures in_turn { (from : ℕ) → AreInTurn from spans.old.items → AreInTurn from spans.new.items }
     ensures few { length spans.new.items ≤ max (length spans.old.items) n }
     ensures many { OnOk result (n ≤ length spans.new.items) }
 {
@@ -66,8 +67,10 @@ fn add_row(
 ) -> Result<(), NoMemory>
     requires behind { length spans.old.items ≤ at }
     requires fits { AreSpans (length words.old.items) spans.old.items }
+    requires in_turn { AreInTurn 0 spans.old.items }
     requires short { length row.now ≤ 128 }
     ensures fits { AreSpans (length words.new.items) spans.new.items }
+    ensures in_turn { AreInTurn 0 spans.new.items }
     ensures few { length spans.new.items ≤ at + 1 }
     ensures added { OnOk result ((i : ℕ) → pairs_of words.new.items i spans.new.items ≡ pairs_of words.old.items i spans.old.items ++ pairs_with (i + at) (row_of 0 row.now)) }
 {
@@ -97,6 +100,20 @@ fn part_of(words: &[u64], span: Span) -> &[u64]
     ensures short { length result.now ≤ 128 }
 {
     &words[span.start..span.end]
+}
+
+// Takes a position out of the words of a row.
+fn clear_place(words: &mut Vec<u64>, span: Span, j: u32)
+    requires { (span.start ≤ span.end) × (span.end ≤ length words.old.items) }
+    ensures len { length words.new.items ≡ length words.old.items }
+    ensures cleared { row_of 0 (words_at words.new.items span) ≡ remove_fact j (row_of 0 (words_at words.old.items span)) }
+    ensures others { (other : Span) → (span.start < span.end → IsApart span other) → words_at words.new.items other ≡ words_at words.old.items other }
+{
+    let at = j as usize / 64;
+    if at < span.end - span.start {
+        let left = words[span.start + at] & !(1 << (j % 64));
+        words[span.start + at] = left;
+    }
 }
 
 impl Rows {
@@ -232,6 +249,19 @@ impl Rows {
             }
         }
         Ok(Some(rows))
+    }
+
+    /// Takes a pair out. It takes no memory, and touches one word.
+    pub(crate) fn remove(&mut self, i: u32, j: u32)
+        ensures { self.new ≡ without_pair i j self.old }
+    {
+        if i < self.first {
+            return;
+        }
+        let k = (i - self.first) as usize;
+        if k < self.spans.len() {
+            clear_place(&mut self.words, self.spans[k], j);
+        }
     }
 
     /// Whether each pair has its smaller position first.

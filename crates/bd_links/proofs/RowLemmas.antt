@@ -100,17 +100,17 @@ module _ (order : Order) (kids : List Kid) (p : ℕ) where
       (all-holders (λ e. e.del) (is_aside order i j) p kids
       ∙ all_same _ _ (λ (d : Kid). aside_turned (eqb d.0 i) (eqb d.0 j) (has d.1.effects.del p) (is_before order d.0 i) (is_before order j d.0)) kids)
 
-  links_is : (j : ℕ) → any_links order (holders (λ e. e.add) kids p) (holders (λ e. e.del) kids p) j ≡ is_linked order kids j p
+  pub links_is : (j : ℕ) → any_links order (holders (λ e. e.add) kids p) (holders (λ e. e.del) kids p) j ≡ is_linked order kids j p
   links_is j =
       any-holders (λ e. e.add) (links_past order (holders (λ e. e.del) kids p) j) p kids
       ∙ any_same _ _ (λ (i : Kid). ap (λ z. has i.1.effects.add p && z) (past_is j i.0) ∙ links_turned (has i.1.effects.add p) (is_before order i.0 j) _) kids
 
-  later_is : (j : ℕ) → list_all (is_later order j) (holders (λ e. e.del) kids p) ≡ list_all (λ d. d.0 == j || not (has d.1.effects.del p) || is_before order j d.0) kids
+  pub later_is : (j : ℕ) → list_all (is_later order j) (holders (λ e. e.del) kids p) ≡ list_all (λ d. d.0 == j || not (has d.1.effects.del p) || is_before order j d.0) kids
   later_is j =
       all-holders (λ e. e.del) (is_later order j) p kids
       ∙ all_same _ _ (λ (d : Kid). later_turned (eqb d.0 j) (has d.1.effects.del p) (is_before order j d.0)) kids
 
-  gives_is : any_gives order (holders (λ e. e.add) kids p) (holders (λ e. e.del) kids p) ≡ is_given order kids p
+  pub gives_is : any_gives order (holders (λ e. e.add) kids p) (holders (λ e. e.del) kids p) ≡ is_given order kids p
   gives_is =
       any-holders (λ e. e.add) (gives_past order (holders (λ e. e.del) kids p)) p kids
       ∙ any_same _ _ (λ (i : Kid). ap (λ z. has i.1.effects.add p && z)

@@ -19,10 +19,14 @@ mod sets;
 mod touches;
 mod whole;
 
+pub use blocks::effects_of_block;
 pub use judging::check;
 pub use law::{chains_fit, chains_run, linearisations_run};
-pub use parts::{Effects, Fault};
-pub use whole::{actions_fit, effects, node_cost};
+pub use links::{all_later, is_linked};
+pub use parts::{Child, Effects, Fault, Touches};
+pub use sets::adds_of_all;
+pub use touches::{deleters, givers, touches_of};
+pub use whole::{actions_fit, as_child, effects, node_cost};
 
 #[cfg(test)]
 mod lists_tests;

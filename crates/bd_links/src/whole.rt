@@ -11,8 +11,8 @@ use bd_task::Task;
 use bd_tree::Node;
 use std::alloc::Global;
 
-// A node's id and effects.
-fn as_child(alloc: Global, task: &Task, node: &Node) -> Result<Child, NoMemory>
+/// A node's id and effects.
+pub fn as_child(alloc: Global, task: &Task, node: &Node) -> Result<Child, NoMemory>
     requires { IsTrue (are_below (length task.now.actions) node.now) }
     ensures { IfOk result (λ c. c ≡ child_of task.now.actions node.now) }
 {

@@ -5,6 +5,7 @@ pub mod DecidingLemmas
 pub mod GapLemmas
 pub mod HalvingLemmas
 pub mod ListedLemmas
+pub mod LooseLemmas
 pub mod MisfitLemmas
 pub mod NodeLemmas
 pub mod OrderLemmas

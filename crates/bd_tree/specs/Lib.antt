@@ -2,6 +2,7 @@ pub mod Chain
 pub mod Convex
 pub mod Deciding
 pub mod Linearisation
+pub mod Loose
 pub mod Misfit
 pub mod Order
 pub mod Products

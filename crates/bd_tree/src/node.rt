@@ -23,7 +23,9 @@ pub enum Node {
 }
 
 impl Node {
-    ghost use Rattle.std.specs.Prelude.{◌≡◌, ◌+◌, ◌++◌, ◌<◌, ◌^◌, ◌↔◌, true, IsTrue, IfOk, OnOk};
+    ghost use Rattle.bd_base.specs.Pairs.{without_pair};
+    ghost use Rattle.bd_tree.specs.declared.node.Node.{Node, Block};
+    ghost use Rattle.std.specs.Prelude.{ℕ, List, ◌≡◌, ◌+◌, ◌++◌, ◌<◌, ◌^◌, ◌↔◌, true, IsTrue, IfOk, OnOk};
     ghost use Rattle.std.specs.Option.{option_copied};
     ghost use Rattle.bd_tree.specs.Tree.{id_of, ids_of, greatest, depth_of, steps_of, nodes_of, pairs_of, listed_of, find_in};
     ghost use Rattle.bd_tree.specs.WellFormed.{has_orders};
@@ -140,6 +142,16 @@ impl Node {
             }
         }
         Ok(())
+    }
+
+    /// Takes a pair out of a block's order, in place: it takes no memory. A step stays as it is.
+    pub fn loosen(&mut self, i: u32, j: u32)
+        ensures { (id : ℕ) (kids : List Node) (order : List (ℕ × ℕ)) → self.old ≡ Block id kids order → self.new ≡ Block id kids (without_pair i j order) }
+    {
+        match self {
+            Node::Step { .. } => {}
+            Node::Block { order, .. } => order.remove(i, j),
+        }
     }
 
     /// The same node.

@@ -32,7 +32,11 @@ impl Tree {
     ghost use Rattle.std.specs.Option.{IsNone, option_copied};
     ghost use Rattle.bd_base.specs.Facts.{has};
     ghost use Rattle.bd_tree.specs.Chain.{chain_of};
+    ghost use Rattle.bd_base.specs.Pairs.{without_pair};
     ghost use Rattle.bd_tree.specs.Linearisation.{IsLinearisation};
+    ghost use Rattle.bd_tree.specs.Loose.{IsFree};
+    ghost use Rattle.bd_tree.specs.declared.node.Node.{Node, Block};
+    ghost use Rattle.std.specs.Prelude.{ℕ, List};
     ghost use Rattle.bd_tree.specs.Misfit.{first_misfit, Shapes};
     ghost use Rattle.bd_tree.specs.Tree.{ids_of, greatest, depth_of, steps_of, nodes_of, pairs_of, listed_of, find_in};
     ghost use Rattle.bd_tree.specs.WellFormed.{IsWellFormed};
@@ -79,6 +83,14 @@ impl Tree {
         ensures well_formed { IsWellFormed self.now }
     {
         &self.root
+    }
+
+    /// Takes a pair out of the root's order, in place: it takes no memory. Nothing is between the two.
+    pub fn loosen(&mut self, i: u32, j: u32)
+        requires { IsFree self.old i j }
+        ensures { (id : ℕ) (kids : List Node) (order : List (ℕ × ℕ)) → self.old ≡ Block id kids order → self.new ≡ Block id kids (without_pair i j order) }
+    {
+        self.root.loosen(i, j);
     }
 
     /// The listed linearisation: the actions of the steps, with the kids of each block in their listing.

@@ -153,8 +153,8 @@ impl Core {
         &self.start
     }
 
-    // What every core keeps.
-    pub(crate) fn keeps(&self)
+    /// What every core keeps: it tells a caller the core's invariant, and does nothing.
+    pub fn keeps(&self)
         ensures { IsCore self.now }
     {
         let _ = &self.task;
