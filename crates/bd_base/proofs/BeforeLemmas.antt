@@ -4,7 +4,7 @@ use Rattle.std.proofs.lemmas.Bool.{cases_eq, cases_lt, eq-eqb, ne_eqb}
 use Rattle.bd_base.specs.Facts.{IsRising, has, insert_fact, plus}
 use Rattle.bd_base.specs.Pairs.{after_of, before_of, is_before}
 use Rattle.bd_base.specs.Rows.{pairs_of}
-use Rattle.bd_base.specs.declared.rows.Span.{Span}
+use Rattle.bd_base.specs.declared.spans.Span.{Span}
 use Rattle.bd_base.proofs.FactLemmas.{has-insert_fact}
 use Rattle.bd_base.proofs.RowLemmas.{before_by_row, after-past}
 use Rattle.bd_base.proofs.SetLemmas.{plus_by}

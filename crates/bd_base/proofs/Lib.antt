@@ -12,5 +12,6 @@ pub mod RunLemmas
 pub mod SetLemmas
 pub mod ShelfLemmas
 pub mod StoredLemmas
+pub mod TrimLemmas
 pub mod TurnLemmas
 pub mod WordLemmas

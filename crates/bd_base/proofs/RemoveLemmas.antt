@@ -9,7 +9,7 @@ use Rattle.bd_base.specs.Bits.{row_of}
 use Rattle.bd_base.specs.Facts.{remove_fact}
 use Rattle.bd_base.specs.Pairs.{without_pair}
 use Rattle.bd_base.specs.Rows.{words_at, pairs_with, pairs_of, AreSpans, AreInTurn, IsApart}
-use Rattle.bd_base.specs.declared.rows.Span.{Span}
+use Rattle.bd_base.specs.declared.spans.Span.{Span}
 use Rattle.bd_base.proofs.RowLemmas.{without_same, without_other}
 
 -- a word that is set outside a range, and within one

@@ -11,7 +11,7 @@ use Rattle.bd_base.specs.Bits.{row_of, upto}
 use Rattle.bd_base.specs.Facts.{has, remove_fact}
 use Rattle.bd_base.specs.Pairs.{after_of, is_before, before_each, have_rising_pairs, without_pair}
 use Rattle.bd_base.specs.Rows.{words_at, pairs_with, pairs_of, AreSpans}
-use Rattle.bd_base.specs.declared.rows.Span.{Span}
+use Rattle.bd_base.specs.declared.spans.Span.{Span}
 
 pub append-none : {X : Type 0} (xs : List X) → xs ++ [] ≡ xs
 append-none [] = refl

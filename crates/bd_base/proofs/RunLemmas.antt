@@ -9,7 +9,7 @@ use Rattle.bd_base.specs.Bits.{bits_of, row_of, upto}
 use Rattle.bd_base.specs.Facts.{has, minus, remove_fact}
 use Rattle.bd_base.specs.Pairs.{after_of, before_each, in_turn, total_order}
 use Rattle.bd_base.specs.Rows.{words_at, pairs_with, pairs_of}
-use Rattle.bd_base.specs.declared.rows.Span.{Span}
+use Rattle.bd_base.specs.declared.spans.Span.{Span}
 use Rattle.bd_base.proofs.BitLemmas.{has_bits_at}
 use Rattle.bd_base.proofs.FactLemmas.{remove_absent}
 use Rattle.bd_base.proofs.SetLemmas.{any_word, clear_single}

@@ -1,8 +1,8 @@
 -- A set in any of its forms.
 use Rattle.bd_base.specs.Facts.{IsRising}
 use Rattle.bd_base.specs.FactSet.{facts_of, IsStored}
-use Rattle.bd_base.specs.declared.facts.Form.{Form}
-use Rattle.bd_base.specs.declared.facts.Form.TheVariants.{Empty, Plain, Numbered}
+use Rattle.bd_base.specs.declared.forms.Form.{Form}
+use Rattle.bd_base.specs.declared.forms.Form.TheVariants.{Empty, Plain, Numbered}
 use Rattle.bd_base.proofs.SetLemmas.{rising-row}
 use Rattle.bd_base.proofs.CellLemmas.{rising-cells}
 

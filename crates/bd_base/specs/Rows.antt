@@ -1,6 +1,6 @@
 -- An order stored as rows of words: row i holds the positions that i is before.
 use Rattle.bd_base.specs.Bits.{row_of}
-use Rattle.bd_base.specs.declared.rows.Span.{Span}
+use Rattle.bd_base.specs.declared.spans.Span.{Span}
 use Rattle.std.specs.List.{slice_range}
 use Rattle.std.specs.Prelude.{ℕ, ◌+◌, ◌⊎◌, ◌<◌, ◌≤◌, max, List, [], ◌∷◌, ◌++◌, map}
 

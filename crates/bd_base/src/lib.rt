@@ -2,9 +2,10 @@
 //! pairs, and the outside as traits.
 //!
 //! It knows no other crate of the repository. It promises that a `FactSet` is the strictly rising list of
-//! its facts after every call, that `Items` and `PairList` are the lists that they were made of, and that a
-//! shelf or a sink answers an error only where its trait says: where it tells so, or a count rose in the call,
-//! or memory was wanting.
+//! its facts after every call, that `OwnedRow` is the rising list of its positions, that `Items` and `PairList`
+//! are the lists that they were made of, and that a shelf or a sink answers an error only where its trait says:
+//! where it tells so, or a count rose in the call, or memory was wanting. A text that a shelf tells is never
+//! missing.
 //! No clause shows how sets and pairs are stored: they are walked by `iter` and asked by `has`. Both are
 //! words of 64 bits: a set as plain words or as the words that aren't 0, and pairs that rise as rows, one for
 //! each first position; other pairs stand as they were given.
@@ -12,6 +13,7 @@
 
 mod cells;
 mod facts;
+mod forms;
 mod ids;
 mod items;
 mod owned_row;
@@ -22,6 +24,7 @@ mod row_building;
 mod rows;
 mod shelf;
 mod sink;
+mod spans;
 mod text_err;
 mod word_sets;
 

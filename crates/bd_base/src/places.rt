@@ -1,6 +1,6 @@
 // Positions as the set bits of words: word w has the positions from 64 w on.
 ghost use Rattle.std.specs.List.{list_all};
-ghost use Rattle.std.specs.Prelude.{◌≡◌, ◌↔◌, ℕ, ◌+◌, ◌-◌, ◌*◌, ◌/◌, ◌<◌, ◌≤◌, ◌^◌, ◌++◌, ◌∷◌, [], true, min, max, length, nat_lt, count_ones, IfOk, OnOk, IsTrue};
+ghost use Rattle.std.specs.Prelude.{◌≡◌, ◌↔◌, ℕ, ◌+◌, ◌-◌, ◌*◌, ◌/◌, ◌<◌, ◌≤◌, ◌^◌, ◌++◌, ◌∷◌, [], true, min, max, length, take, nat_lt, count_ones, IfOk, OnOk, IsTrue};
 ghost use Rattle.bd_base.specs.Bits.{bits_of, row_of, upto};
 ghost use Rattle.bd_base.specs.Facts.{has};
 
@@ -98,6 +98,7 @@ pub(crate) fn are_above(words: &[u64], at: u32) -> bool
 pub(crate) fn trimmed(words: &[u64]) -> &[u64]
     ensures same { row_of 0 result.now ≡ row_of 0 words.now }
     ensures short { length result.now ≤ length words.now }
+    ensures part { result.now ≡ take (length result.now) words.now }
 {
     let mut kept = words;
     while let Some((last, rest)) = kept.split_last() {

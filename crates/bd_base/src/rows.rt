@@ -8,6 +8,9 @@ ghost use Rattle.bd_base.specs.Rows.{AreInTurn, AreSpans, IsApart, pairs_of, pai
 use crate::NoMemory;
 use crate::owned_row::OwnedRow;
 use crate::places::{Places, are_above, count_places, has_place, is_run, trimmed};
+use crate::spans::{
+    Span, add_row, clear_place, cut_row, drop_first_rows, drop_last_rows, first_with, part_of,
+};
 use crate::word_sets::clear_word;
 use std::alloc::Global;
 use std::marker::Model;
@@ -17,13 +20,6 @@ pub(crate) const ROW_LIMIT: u32 = 8192;
 
 /// No row has more words than these.
 const ROW_WORDS: usize = 128;
-
-/// Where a row's words lie among all words.
-#[derive(Clone, Copy, Debug)]
-pub(crate) struct Span {
-    start: usize,
-    end: usize,
-}
 
 /// The rows from the first on; seen as their pairs.
 #[derive(Debug, Drop)]
@@ -42,78 +38,6 @@ impl Model for Rows {
     ghost view = { λ r. pairs_of r.words.items r.first r.spans.items };
 
     ghost invariant = { λ r. (r.first + length r.spans.items ≤ 8192) × AreSpans (length r.words.items) r.spans.items × AreInTurn 0 r.spans.items };
-}
-
-// Adds rows without a position until there are n.
-fn pass_rows(spans: &mut Vec<Span>, n: usize) -> Result<(), NoMemory>
-    ensures same { (words : List ℕ) (i : ℕ) → pairs_of words i spans.new.items ≡ pairs_of words i spans.old.items }
-    ensures fits { (size : ℕ) → AreSpans size spans.old.items → AreSpans size spans.new.items }
-    ensures in_turn { (from : ℕ) → AreInTurn from spans.old.items → AreInTurn from spans.new.items }
-    ensures few { length spans.new.items ≤ max (length spans.old.items) n }
-    ensures many { OnOk result (n ≤ length spans.new.items) }
-{
-    while spans.len() < n {
-        spans.push(Span { start: 0, end: 0 })?;
-    }
-    Ok(())
-}
-
-// Puts in a row behind all rows, as the one at a place.
-fn add_row(
-    spans: &mut Vec<Span>,
-    words: &mut Vec<u64>,
-    at: usize,
-    row: &[u64],
-) -> Result<(), NoMemory>
-    requires behind { length spans.old.items ≤ at }
-    requires fits { AreSpans (length words.old.items) spans.old.items }
-    requires in_turn { AreInTurn 0 spans.old.items }
-    requires short { length row.now ≤ 128 }
-    ensures fits { AreSpans (length words.new.items) spans.new.items }
-    ensures in_turn { AreInTurn 0 spans.new.items }
-    ensures few { length spans.new.items ≤ at + 1 }
-    ensures added { OnOk result ((i : ℕ) → pairs_of words.new.items i spans.new.items ≡ pairs_of words.old.items i spans.old.items ++ pairs_with (i + at) (row_of 0 row.now)) }
-{
-    pass_rows(spans, at)?;
-    let start = words.len();
-    words.extend_from_slice(row)?;
-    spans.push(Span {
-        start,
-        end: start + row.len(),
-    })?;
-    Ok(())
-}
-
-// The number of the first row, where row i comes: that of the rows that are there.
-fn first_with(first: u32, spans: &[Span], i: u32) -> u32
-    requires { (first + length spans.now ≤ 8192) × (i < 8192) }
-    ensures same { (words : List ℕ) → pairs_of words result spans.now ≡ pairs_of words first spans.now }
-    ensures few { result + length spans.now ≤ 8192 }
-{
-    if spans.is_empty() { i } else { first }
-}
-
-// The words of a row.
-fn part_of(words: &[u64], span: Span) -> &[u64]
-    requires { (span.start ≤ span.end) × (span.end ≤ length words.now) × (span.end ≤ span.start + 128) }
-    ensures value { result.now ≡ words_at words.now span }
-    ensures short { length result.now ≤ 128 }
-{
-    &words[span.start..span.end]
-}
-
-// Takes a position out of the words of a row.
-fn clear_place(words: &mut Vec<u64>, span: Span, j: u32)
-    requires { (span.start ≤ span.end) × (span.end ≤ length words.old.items) }
-    ensures len { length words.new.items ≡ length words.old.items }
-    ensures cleared { row_of 0 (words_at words.new.items span) ≡ remove_fact j (row_of 0 (words_at words.old.items span)) }
-    ensures others { (other : Span) → (span.start < span.end → IsApart span other) → words_at words.new.items other ≡ words_at words.old.items other }
-{
-    let at = j as usize / 64;
-    if at < span.end - span.start {
-        let left = words[span.start + at] & !(1 << (j % 64));
-        words[span.start + at] = left;
-    }
 }
 
 impl Rows {
@@ -251,8 +175,17 @@ impl Rows {
         Ok(Some(rows))
     }
 
-    /// Takes a pair out. It takes no memory, and touches one word.
+    /// Takes a pair out. It takes no memory, and touches one word. Rows are kept from the first to the last that
+    /// isn't empty, each no longer than its last pair.
     pub(crate) fn remove(&mut self, i: u32, j: u32)
+        ensures { self.new ≡ without_pair i j self.old }
+    {
+        self.clear(i, j);
+        self.trim(i);
+    }
+
+    // Takes a pair out of its row's words.
+    fn clear(&mut self, i: u32, j: u32)
         ensures { self.new ≡ without_pair i j self.old }
     {
         if i < self.first {
@@ -261,6 +194,21 @@ impl Rows {
         let k = (i - self.first) as usize;
         if k < self.spans.len() {
             clear_place(&mut self.words, self.spans[k], j);
+        }
+    }
+
+    // Cuts the words behind the last position of row i, and the rows at both ends that have no words.
+    fn trim(&mut self, i: u32)
+        ensures { self.new ≡ self.old }
+    {
+        if i < self.first {
+            return;
+        }
+        let k = (i - self.first) as usize;
+        if k < self.spans.len() {
+            cut_row(&self.words, &mut self.spans, k);
+            drop_last_rows(&mut self.spans);
+            self.first = drop_first_rows(self.first, &mut self.spans);
         }
     }
 

@@ -20,6 +20,21 @@ pub(crate) fn used(words: &[u64]) -> usize
     n
 }
 
+/// Whether words that get the facts of others too, and grow by it, are at most twice as many as those that aren't 0.
+/// The last of the others isn't 0.
+pub(crate) fn stay_dense(words: &[u64], others: &[u64]) -> bool {
+    if others.len() <= words.len() {
+        return true;
+    }
+    let mut n = 0;
+    for (at, word) in others.iter().enumerate() {
+        if word_at(words, at) | *word != 0 {
+            n += 1;
+        }
+    }
+    (others.len() - 1) / 2 < n
+}
+
 /// Puts in the facts of a word.
 pub(crate) fn put_word(words: &mut Vec<u64>, n: usize, word: u64)
     requires { n < length words.old.items }

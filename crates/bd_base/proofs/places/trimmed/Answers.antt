@@ -1,5 +1,7 @@
-use Rattle.std.proofs.Common.{◌∷◌, ◌++◌, [], ap, sym, ◌∙◌, arith}
+use Rattle.std.proofs.Common.{◌∷◌, ◌++◌, [], length, take, ap, sym, ◌∙◌, arith}
+use Rattle.std.proofs.Math.Seq.{take-append_seam}
 use Rattle.bd_base.specs.Bits.{row_of}
+use Rattle.bd_base.proofs.TrimLemmas.{take_less}
 use Rattle.bd_base.proofs.WordLemmas.{row_zero}
 use Rattle.bd_base.proofs.places.trimmed.Goals as goal
 
@@ -11,4 +13,5 @@ loop-last-preserved c =
     record {
       same = sym (row_zero rest 0) ∙ sym (ap (row_of 0) (split.0 ∙ ap (λ z. rest ++ z ∷ []) c.if-last-ne0.false)) ∙ inv.same;
       short = omega (arith, split.1, inv.short);
+      part = sym (take-append_seam rest _) ∙ ap (take (length rest)) (sym split.0 ∙ inv.part) ∙ take_less (length rest) (length c.loop-last.kept.now) _ (omega (arith, split.1));
     }

@@ -2,7 +2,7 @@ use Rattle.std.proofs.Common.{◌<◌, List, ℕ, length, get_or, take, ap, sym,
 use Rattle.std.proofs.lemmas.Grind.{take_at_read}
 use Rattle.bd_base.specs.Bits.{row_of}
 use Rattle.bd_base.specs.Rows.{pairs_of}
-use Rattle.bd_base.specs.declared.rows.Span.{Span}
+use Rattle.bd_base.specs.declared.spans.Span.{Span}
 use Rattle.bd_base.proofs.RowLemmas.{count_row, seen_fits, seen_part}
 use Rattle.bd_base.proofs.rows.Rows.len.Goals as goal
 

@@ -1,6 +1,6 @@
 use Rattle.std.proofs.Common.{◌<◌, List, length, refl, ap, sym, ◌∙◌, arith}
 use Rattle.bd_base.specs.Pairs.{have_rising_pairs}
-use Rattle.bd_base.specs.declared.rows.Span.{Span}
+use Rattle.bd_base.specs.declared.spans.Span.{Span}
 use Rattle.bd_base.proofs.RowLemmas.{rises_at, seen_fits, seen_part}
 use Rattle.bd_base.proofs.rows.Rows.rises.Goals as goal
 

@@ -2,7 +2,7 @@ use Rattle.std.proofs.Common.{◌<◌, ◌+◌, ◌++◌, List, ℕ, length, ap,
 use Rattle.bd_base.specs.Bits.{row_of}
 use Rattle.bd_base.specs.Pairs.{without_pair}
 use Rattle.bd_base.specs.Rows.{pairs_with}
-use Rattle.bd_base.specs.declared.rows.Span.{Span}
+use Rattle.bd_base.specs.declared.spans.Span.{Span}
 use Rattle.bd_base.proofs.RowLemmas.{seen_fits, seen_part, without_at}
 use Rattle.bd_base.proofs.rows.Rows.without.Goals as goal
 

@@ -1,9 +1,9 @@
 use Rattle.std.proofs.Common.{◌≡◌, ◌+◌, List, length, length-append, ap, sym, ◌∙◌, subst, arith}
-use Rattle.bd_base.specs.declared.rows.Span.{Span}
+use Rattle.bd_base.specs.declared.spans.Span.{Span}
 use Rattle.bd_base.specs.Rows.{pairs_of, AreInTurn, AreSpans}
 use Rattle.bd_base.proofs.RowLemmas.{pairs_of-pass, AreSpans-push}
 use Rattle.bd_base.proofs.RemoveLemmas.{turn_pass}
-use Rattle.bd_base.proofs.rows.pass_rows.Goals as goal
+use Rattle.bd_base.proofs.spans.pass_rows.Goals as goal
 
 pub loop-spans-preserved : goal.loop-spans-preserved
 loop-spans-preserved c =

@@ -1,7 +1,7 @@
 use Rattle.std.proofs.Common.{◌≡◌, ◌^◌, [], take}
 use Rattle.bd_base.specs.Cells.{AreCells, cells_of}
 use Rattle.bd_base.specs.Facts.{plus}
-use Rattle.bd_base.proofs.facts.cells_of_facts.Given as goal
+use Rattle.bd_base.proofs.forms.cells_of_facts.Given as goal
 
 abbrev pub invariant-loop-f : goal.invariant-loop-f
 invariant-loop-f l = record {

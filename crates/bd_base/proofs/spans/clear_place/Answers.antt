@@ -7,7 +7,7 @@ use Rattle.bd_base.proofs.FactLemmas.{remove_absent}
 use Rattle.bd_base.proofs.RemoveLemmas.{range_apart, range_within}
 use Rattle.bd_base.proofs.SetLemmas.{clear_and, clear_single}
 use Rattle.bd_base.proofs.WordLemmas.{row_end}
-use Rattle.bd_base.proofs.rows.clear_place.Goals as goal
+use Rattle.bd_base.proofs.spans.clear_place.Goals as goal
 
 pub returns-then-at-span-clause-cleared : goal.returns-then-at-span-clause-cleared
 returns-then-at-span-clause-cleared c =

@@ -1,6 +1,6 @@
 use Rattle.std.proofs.Common.{◌≡◌, ℕ, List, ◌≤◌, ◌-◌, max, length}
 use Rattle.bd_base.specs.Rows.{pairs_of, AreInTurn, AreSpans}
-use Rattle.bd_base.proofs.rows.pass_rows.Given as goal
+use Rattle.bd_base.proofs.spans.pass_rows.Given as goal
 
 abbrev pub invariant-loop-spans : goal.invariant-loop-spans
 invariant-loop-spans l = record {

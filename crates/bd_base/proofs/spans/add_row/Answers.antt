@@ -1,10 +1,10 @@
 use Rattle.std.proofs.Common.{◌+◌, ◌++◌, List, ℕ, length, ap, sym, ◌∙◌, subst, arith}
-use Rattle.bd_base.specs.declared.rows.Span.{Span}
+use Rattle.bd_base.specs.declared.spans.Span.{Span}
 use Rattle.bd_base.specs.Bits.{row_of}
 use Rattle.bd_base.specs.Rows.{pairs_with, AreInTurn, AreSpans}
 use Rattle.bd_base.proofs.RowLemmas.{fits_grown, fits_added, pairs_added}
 use Rattle.bd_base.proofs.RemoveLemmas.{turn_push}
-use Rattle.bd_base.proofs.rows.add_row.Goals as goal
+use Rattle.bd_base.proofs.spans.add_row.Goals as goal
 
 pub returns-in_err-pass_rows-clause-fits : goal.returns-in_err-pass_rows-clause-fits
 returns-in_err-pass_rows-clause-fits c = c.in_err-pass_rows.ensures.fits _ c.requires.fits

@@ -3,10 +3,10 @@ use Rattle.bd_base.specs.Bits.{row_of}
 use Rattle.bd_base.specs.Facts.{remove_fact}
 use Rattle.bd_base.specs.Pairs.{without_pair}
 use Rattle.bd_base.specs.Rows.{words_at, pairs_of}
-use Rattle.bd_base.specs.declared.rows.Span.{Span}
+use Rattle.bd_base.specs.declared.spans.Span.{Span}
 use Rattle.bd_base.proofs.RemoveLemmas.{pairs_removed, pairs_without_row, there_same, turn_apart}
 use Rattle.bd_base.proofs.RowLemmas.{AreSpans-at}
-use Rattle.bd_base.proofs.rows.Rows.remove.Goals as goal
+use Rattle.bd_base.proofs.rows.Rows.clear.Goals as goal
 
 pub returns-then-i-self : goal.returns-then-i-self
 returns-then-i-self c =

@@ -3,7 +3,7 @@ use Rattle.std.proofs.lemmas.Grind.{get_or_default_zero}
 use Rattle.bd_base.specs.Cells.{cells_of}
 use Rattle.bd_base.specs.Facts.{insert_fact, plus}
 use Rattle.bd_base.proofs.SetLemmas.{put_single, plus-push}
-use Rattle.bd_base.proofs.facts.cells_of_facts.Goals as goal
+use Rattle.bd_base.proofs.forms.cells_of_facts.Goals as goal
 
 pub loop-f-preserved : goal.loop-f-preserved
 loop-f-preserved c =
