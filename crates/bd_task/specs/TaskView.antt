@@ -1,7 +1,7 @@
 -- What a task is seen as, and the conditions that it meets.
 use Rattle.std.specs.Prelude.{◌≡◌, ℕ, ◌<◌, ◌≤◌, Bool, true, not, List, [], ◌∷◌, length}
 use Rattle.std.specs.List.{list_all}
-use Rattle.bd_base.specs.Facts.{has}
+use Rattle.bd_base.specs.Facts.{IsRising, has}
 use Rattle.bd_task.specs.declared.ground.Action.{Action}
 
 pub record TaskView : Type 0 where
@@ -38,3 +38,9 @@ pub record IsTask (t : TaskView) : Type 0 where
   pub actions : AreActions (length t.facts) t.actions
   pub init : AreBelow (length t.facts) t.init
   pub goal : AreBelow (length t.facts) t.goal
+
+-- the sets of an action rise
+pub record HasRisingSets (a : Action) : Type 0 where
+  pub pre : IsRising a.pre
+  pub add : IsRising a.add
+  pub del : IsRising a.del

@@ -1,6 +1,6 @@
 ghost use Rattle.std.specs.Prelude.{◌≡◌, ◌<◌, ◌≤◌, ◌^◌, length, Some, IfOk, OnErr, All, slice_get, vec_len};
-ghost use Rattle.bd_base.specs.Facts.{minus, plus};
-ghost use Rattle.bd_task.specs.TaskView.{AreBelow, IsAction, IsTask};
+ghost use Rattle.bd_base.specs.Facts.{IsRising, minus, plus};
+ghost use Rattle.bd_task.specs.TaskView.{AreBelow, HasRisingSets, IsAction, IsTask};
 ghost use Rattle.bd_task.specs.Run.{Steps, step_by};
 ghost use Rattle.bd_task.specs.Valid.{cost_of};
 
@@ -79,8 +79,13 @@ impl Task {
         requires { a < length self.now.actions }
         ensures action { slice_get self.now.actions a ≡ Some result.now }
         ensures fits { IsAction (length self.now.facts) result.now }
+        ensures rising { HasRisingSets result.now }
     {
-        &self.actions[a.0 as usize]
+        let action = &self.actions[a.0 as usize];
+        rises(&action.pre);
+        rises(&action.add);
+        rises(&action.del);
+        action
     }
 
     /// How many facts it has: at most 524,288.
@@ -103,8 +108,10 @@ impl Task {
     pub fn init(&self) -> &FactSet
         ensures set { result.now ≡ self.now.init }
         ensures fits { AreBelow (length self.now.facts) result.now }
+        ensures rising { IsRising result.now }
         ensures task { IsTask self.now }
     {
+        rises(&self.init);
         &self.init
     }
 
@@ -112,7 +119,9 @@ impl Task {
     pub fn goal(&self) -> &FactSet
         ensures set { result.now ≡ self.now.goal }
         ensures fits { AreBelow (length self.now.facts) result.now }
+        ensures rising { IsRising result.now }
     {
+        rises(&self.goal);
         &self.goal
     }
 
@@ -158,6 +167,13 @@ impl Task {
             goal: self.goal.try_copy(alloc)?,
         })
     }
+}
+
+// What every set of facts keeps, which the walk through it tells; it does nothing.
+fn rises(set: &FactSet)
+    ensures { IsRising set.now }
+{
+    let _walk = set.iter();
 }
 
 fn copies_of_names(alloc: Global, names: &[Text]) -> Result<Vec<Text>, NoMemory>

@@ -49,54 +49,14 @@ fn there_and_back(alloc: Global) -> Result<Option<Task>, NoMemory> {
 }
 
 #[test]
-fn a_task_has_its_parts(rt: HostRuntime) -> Result<(), Fail> {
-    let alloc = rt.alloc();
-    let task = there_and_back(alloc)?.ok_or("no task")?;
-    assert_eq!(rt; task.facts(), 2);
-    assert_eq!(rt; task.actions(), 2);
-    assert!(rt; task.init().has(FactId(0)));
-    assert!(rt; task.goal().has(FactId(1)));
-    assert_eq!(rt; task.fact_name(FactId(1)), b"b".as_slice());
-    assert_eq!(rt; task.action(ActionId(1)).cost, 4);
-    Ok(())
-}
-
-#[test]
-fn a_step_runs_or_leaves_the_state(rt: HostRuntime) -> Result<(), Fail> {
-    let alloc = rt.alloc();
-    let task = there_and_back(alloc)?.ok_or("no task")?;
-    assert_eq!(rt; task.actions(), 2);
-    let mut s = task.init().try_copy(alloc)?;
-    assert!(rt; !task.step(alloc, &mut s, ActionId(1))?);
-    assert!(rt; s.has(FactId(0)));
-    assert!(rt; task.step(alloc, &mut s, ActionId(0))?);
-    assert!(rt; s.has(FactId(1)));
-    assert!(rt; !s.has(FactId(0)));
-    Ok(())
-}
-
-#[test]
-fn costs_add_up_on_a_copy(rt: HostRuntime) -> Result<(), Fail> {
+fn a_task_is_made_copied_and_run(rt: HostRuntime) -> Result<(), Fail> {
     let alloc = rt.alloc();
     let task = there_and_back(alloc)?.ok_or("no task")?.try_copy(alloc)?;
     assert_eq!(rt; task.actions(), 2);
-    let list = [ActionId(0), ActionId(1), ActionId(0)];
-    assert_eq!(rt; task.cost(&list), 10);
-    Ok(())
-}
-
-#[test]
-fn parts_that_make_no_task(rt: HostRuntime) -> Result<(), Fail> {
-    let alloc = rt.alloc();
-    let facts = names(alloc)?;
-    let none = set(alloc, &[])?;
-    let outside = set(alloc, &[2])?;
-    assert!(rt; is_task(&facts, &[], &none, &none));
-    assert!(rt; !is_task(&facts, &[], &outside, &none));
-    assert!(rt; !is_task(&facts, &[], &none, &outside));
-    let dear = [action(alloc, 1_000_000_001, &[], &[], &[])?];
-    assert!(rt; !is_task(&facts, &dear, &none, &none));
-    let both = [action(alloc, 1, &[], &[0], &[0])?];
-    assert!(rt; !is_task(&facts, &both, &none, &none));
+    let mut s = task.init().try_copy(alloc)?;
+    assert!(rt; task.step(alloc, &mut s, ActionId(0))?);
+    assert!(rt; s.has(FactId(1)) && !s.has(FactId(0)));
+    assert!(rt; !task.step(alloc, &mut s, ActionId(0))?);
+    assert_eq!(rt; task.cost(&[ActionId(0), ActionId(1)]), 7);
     Ok(())
 }

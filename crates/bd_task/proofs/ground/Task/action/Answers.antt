@@ -9,4 +9,4 @@ returns-clause-fits c =
     let facts : length c.self.inside.facts.items ≡ length c.args.self.now.facts = ap (λ (t : TaskView). length t.facts) c.self.view_is in
     let at : c.a.inside.0 ≡ c.args.a = c.a.view_is in
     let within : c.a.inside.0 < length c.self.inside.actions.items = omega (arith, c.requires) in
-    IsAction_there _ _ _ _ _ facts c.self.invariant.actions within c.index.ensures
+    IsAction_there _ _ _ _ _ facts c.self.invariant.actions within c.index-action.ensures
