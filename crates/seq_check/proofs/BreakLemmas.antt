@@ -1,5 +1,5 @@
 -- What breaks a list, and what runs.
-use Rattle.std.proofs.Common.{◌≡◌, ℕ, zero, suc, ◌+◌, ◌<◌, Bool, true, false, cond, not, ◌&&◌, List, [], ◌∷◌, length, get_or, drop, Option, Some, None, refl, sym, ap, ◌∙◌, subst, arith, add-one, All, drop-cons, Result, Ok, Err, IfOk}
+use Rattle.std.proofs.Common.{◌≡◌, ◌↔◌, ℕ, zero, suc, ◌+◌, ◌<◌, Bool, true, false, cond, not, ◌&&◌, List, [], ◌∷◌, length, get_or, drop, Option, Some, None, refl, sym, ap, ◌∙◌, subst, arith, add-one, All, drop-cons, Result, Ok, Err, IfOk}
 use Rattle.std.specs.List.{slice_get, AllByRecursion}
 use Rattle.std.proofs.lemmas.Bool.{both_ways}
 use Rattle.std.proofs.lemmas.List.Elements.{recursion_from_All}
@@ -87,6 +87,13 @@ module _ (task : TaskView) (list : List ℕ) (r : All (λ x. x < length task.act
 
   pub invalid_from_some : (w : Break) → first_break task list ≡ Some w → IsValid task list → ⊥
   invalid_from_some w e = subst (Sound task.goal (run task task.init list)) e (break_from-is task list task.init 1 (recursion_from_All (λ x. x < length task.actions) list r))
+
+  none_from_valid : (w : Option Break) → first_break task list ≡ w → IsValid task list → first_break task list ≡ None
+  none_from_valid None e v = e
+  none_from_valid (Some w) e v = absurd (invalid_from_some w e v)
+
+  pub unbroken_is : (first_break task list ≡ None) ↔ IsValid task list
+  unbroken_is = (valid_from_none, none_from_valid (first_break task list) refl)
 
 -- what an answer says of a list
 module _ (task : TaskView) (list : List ℕ) (there : All (λ x. x < length task.actions) list) where

@@ -1,4 +1,4 @@
-ghost use Rattle.std.specs.Prelude.{◌≡◌, ℕ, ◌<◌, ◌^◌, length, IfOk, IfSome, All};
+ghost use Rattle.std.specs.Prelude.{◌≡◌, ◌↔◌, ℕ, ◌<◌, ◌^◌, length, None, IfOk, IfSome, All};
 ghost use Rattle.bd_task.specs.TaskView.{AreBelow};
 ghost use Rattle.bd_task.specs.Run.{lacking};
 ghost use Rattle.bd_task.specs.Valid.{first_break, cost_of, IsValid};
@@ -75,7 +75,9 @@ pub fn validate(alloc: Global, task: &Task, list: &[ActionId]) -> Result<u64, Br
     requires short { length list.now < 2 ^ 32 }
     // The cost, exactly where nothing breaks, and else the first break.
     ensures answer { Answers (first_break task.now list.now) (cost_of task.now list.now) result }
-    // The same by the run of the list.
+    // Nothing breaks exactly where the list is valid, whatever is answered.
+    ensures unbroken { (first_break task.now list.now ≡ None) ↔ IsValid task.now list.now }
+    // The answer by the run of the list.
     ensures valid { IfOk result (λ _. IsValid task.now list.now) }
     ensures complete { IsValid task.now list.now → IsOkOrNoMemory result }
     // What is named is a fact of the task and a place of the list.
