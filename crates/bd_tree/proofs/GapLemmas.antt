@@ -2,10 +2,12 @@
 use Rattle.std.proofs.Common.{◌≡◌, ℕ, zero, suc, ◌+◌, ◌-◌, ◌<◌, ◌≤◌, Bool, true, false, not, ◌&&◌, ◌||◌, ltb, eqb, List, [], ◌∷◌, ◌++◌, length, take, drop, get_or, Option, Some, None, refl, sym, ap, ◌∙◌, inl, inr, arith}
 use Rattle.std.specs.List.{list_all, list_any, find}
 use Rattle.std.specs.Option.{option_or}
-use Rattle.std.proofs.lemmas.Bool.{and_parts, and_from, and_left, and_right, ltb-true, ltb-false, lt-ltb, le-ltb, eqb-true, ne_eqb, cond-true, cond-false, not-true, not_from_false}
+use Rattle.std.proofs.lemmas.Bool.{both_ways, cases_eq, and_parts, and_from, and_left, and_right, ltb-true, ltb-false, lt-ltb, le-ltb, eqb-true, ne_eqb, cond-true, cond-false, not-true, not_from_false}
 use Rattle.std.proofs.lemmas.List.{take-append-drop}
 use Rattle.std.proofs.lemmas.List.Folds.{list_any-append, find-append}
-use Rattle.bd_base.specs.Pairs.{is_before, before_each, in_turn}
+use Rattle.bd_base.specs.Facts.{has, is_subset}
+use Rattle.bd_base.specs.Pairs.{after_of, is_before, before_each, in_turn}
+use Rattle.bd_base.proofs.RowLemmas.{before_by_row}
 use Rattle.bd_tree.specs.Misfit.{leads_to, is_gap}
 use Rattle.bd_tree.specs.Order.{is_less, is_rising}
 use Rattle.bd_tree.proofs.MisfitLemmas.{less_parts, IsLess}
@@ -31,10 +33,6 @@ behind_row (p ∷ ps) i (suc k) d lt off r b =
 
 pub parts_of : (ps front back : List (ℕ × ℕ)) (k : ℕ) → front ≡ take k ps → back ≡ drop k ps → front ++ back ≡ ps
 parts_of ps front back k f b = ap (λ z. z ++ back) f ∙ ap (λ z. take k ps ++ z) b ∙ take-append-drop k ps
-
-pub no_pairs : (ps : List (ℕ × ℕ)) → length ps ≡ 0 → ps ≡ []
-no_pairs [] e = refl
-no_pairs (p ∷ ps) e = absurd (omega (arith, e))
 
 rising_drop : (xs ys : List (ℕ × ℕ)) → is_rising (xs ++ ys) ≡ true → is_rising ys ≡ true
 rising_drop [] ys r = r
@@ -72,11 +70,33 @@ module _ (f : ℕ × ℕ → Bool) where
       list_any-append (λ p. eqb p.0 m && f p) row behind
       ∙ ap (λ z. z || list_any (λ p. eqb p.0 m && f p) behind) (off_row i m row lt a)
 
+has_from : (xs s : List ℕ) (j : ℕ) → is_subset xs s ≡ true → has xs j ≡ true → has s j ≡ true
+has_from [] s j sub e = absurd (cc)
+has_from (x ∷ xs) s j sub e = elim (cases_eq x j) [
+  | inl same ↦ ap (has s) (sym same) ∙ (and_parts (has s x) (is_subset xs s) sub).0
+  | inr other ↦ has_from xs s j (and_parts (has s x) (is_subset xs s) sub).1 (ap (λ z. z || has xs j) (sym (ne_eqb x j other)) ∙ e)
+]
+
+-- whether i is before all that a second position of a pair is before
+abbrev IsFull : List (ℕ × ℕ) → ℕ → ℕ × ℕ → Bool
+IsFull order i p = is_subset (after_of order p.1) (after_of order i)
+
 module _ (order : List (ℕ × ℕ)) (i : ℕ) where
-  -- a position that is before none needs no further pair
-  pub none_in_row : ((j : ℕ) → leads_to order (i, j) ≡ false) → (j k : ℕ) → find (is_gap order) (before_each i j k) ≡ None
-  none_in_row h j zero = refl
-  none_in_row h j (suc k) = cond-false _ _ _ (and_right (not (is_before order i j)) (leads_to order (i, j)) (h j)) ∙ none_in_row h (j + 1) k
+  gap_by : (j : ℕ) (before leads : Bool) → is_before order i j ≡ before → (before ≡ false → leads_to order (i, j) ≡ false) → is_gap order (i, j) ≡ false
+  gap_by j true leads e h = ap (λ z. not z && leads_to order (i, j)) e
+  gap_by j false leads e h = and_right (not (is_before order i j)) (leads_to order (i, j)) (h refl)
+
+  no_gap : (row : List (ℕ × ℕ)) (j : ℕ) → leads_to order (i, j) ≡ list_any (λ p. is_before order p.1 j) row → list_all (IsFull order i) row ≡ true → is_gap order (i, j) ≡ false
+  no_gap row j h full = gap_by j (is_before order i j) true refl (λ off. h ∙ none_of (IsFull order i) (λ p. is_before order p.1 j) (λ p sub. by_row p (is_before order p.1 j) refl sub off) row full)
+    where
+      by_row : (p : ℕ × ℕ) (b : Bool) → is_before order p.1 j ≡ b → IsFull order i p ≡ true → is_before order i j ≡ false → is_before order p.1 j ≡ false
+      by_row p false e sub off = e
+      by_row p true e sub off = absurd (both_ways _ off (before_by_row order i j ∙ has_from (after_of order p.1) (after_of order i) j sub (sym (before_by_row order p.1 j) ∙ e)))
+
+  -- a row that is full needs no further pair
+  pub no_gap_in_row : (row : List (ℕ × ℕ)) → ((j : ℕ) → leads_to order (i, j) ≡ list_any (λ p. is_before order p.1 j) row) → list_all (IsFull order i) row ≡ true → (j k : ℕ) → find (is_gap order) (before_each i j k) ≡ None
+  no_gap_in_row row h full j zero = refl
+  no_gap_in_row row h full j (suc k) = cond-false _ _ _ (no_gap row j (h j) full) ∙ no_gap_in_row row h full (j + 1) k
 
   pub gap_here : (j n : ℕ) → j < n → is_gap order (i, j) ≡ true → find (is_gap order) (before_each i j (n - j)) ≡ Some (i, j)
   gap_here j n lt gap =

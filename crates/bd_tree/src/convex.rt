@@ -93,18 +93,18 @@ fn has_pair(order: &PairList, i: usize, j: usize) -> bool
     false
 }
 
-// Whether the kid is a member and before position j.
+// Whether the kid is a member and before position j. The order is asked first, which costs less.
 fn leads(order: &PairList, members: &Members<'_>, j: usize, k: usize, kid: &Node) -> bool
     ensures { result ≡ (is_member members.now (k, kid.now) && is_before order.now k j) }
 {
-    members.has(kid.id()) && comes_before(order, k, j)
+    comes_before(order, k, j) && members.has(kid.id())
 }
 
-// Whether the kid is a member and after position j.
+// Whether the kid is a member and after position j. The order is asked first, which costs less.
 fn follows(order: &PairList, members: &Members<'_>, j: usize, k: usize, kid: &Node) -> bool
     ensures { result ≡ (is_member members.now (k, kid.now) && is_before order.now j k) }
 {
-    members.has(kid.id()) && comes_before(order, j, k)
+    comes_before(order, j, k) && members.has(kid.id())
 }
 
 /// Whether some member is before position j.

@@ -9,7 +9,7 @@
 //! each block's order is a strictly rising and closed list of pairs of its kids' positions. How deep a tree is,
 //! is no part of that. The counts are exact, two nodes are the same exactly where they are equal, and the listed
 //! linearisation is one of the tree's linearisations. `Tree::new` tests a root, tells its first misfit, and takes no
-//! more than 64 levels; whether a list is a linearisation is decided exactly.
+//! more than 64 levels; an order has no misfit exactly where it is one; lists are decided exactly.
 //! Only calls that are given an allocator take memory, and `NoMemory` leaves everything as it was.
 #![tactic(auto)]
 
@@ -29,13 +29,5 @@ pub use node::{Node, NodeList};
 pub use spans::{Span, span_of};
 pub use tree::Tree;
 
-#[cfg(test)]
-mod deciding_tests;
-#[cfg(test)]
-mod misfit_tests;
-#[cfg(test)]
-mod pairs_tests;
-#[cfg(test)]
-mod shapes;
 #[cfg(test)]
 mod tests;

@@ -1,9 +1,10 @@
-ghost use Rattle.std.specs.Prelude.{◌≡◌, ◌+◌, ◌-◌, ◌<◌, ◌≤◌, ◌^◌, ◌&&◌, ◌||◌, ◌==◌, ℕ, None, Some, true, [], length, take, drop, nat_lt, not, IfOk};
+ghost use Rattle.std.specs.Prelude.{◌≡◌, ◌↔◌, ◌+◌, ◌-◌, ◌<◌, ◌≤◌, ◌^◌, ◌&&◌, ◌||◌, ◌==◌, ℕ, None, Some, true, [], length, take, drop, nat_lt, not, IfOk, IsTrue};
 ghost use Rattle.std.specs.List.{list_all, list_any, find};
 ghost use Rattle.std.specs.Option.{option_map};
-ghost use Rattle.bd_base.specs.Pairs.{is_before, before_each, total_order};
+ghost use Rattle.bd_base.specs.Facts.{is_subset};
+ghost use Rattle.bd_base.specs.Pairs.{after_of, is_before, before_each, total_order};
 ghost use Rattle.bd_tree.specs.Misfit.{first_repeat, stray_after, leads_to, is_gap, first_gap, order_misfit, first_disorder, first_misfit};
-ghost use Rattle.bd_tree.specs.Order.{is_less, is_rising, is_within};
+ghost use Rattle.bd_tree.specs.Order.{is_less, is_order, is_rising, is_within};
 ghost use Rattle.bd_tree.specs.Tree.{ids_of, nodes_of};
 ghost use Rattle.bd_tree.specs.WellFormed.{is_root};
 ghost use Rattle.bd_tree.specs.declared.misfit.Misfit.TheVariants.{NoMemory as OutOfMemory};
@@ -168,6 +169,21 @@ impl Lookup<'_> {
             self.order.has(i, j)
         }
     }
+
+    // Whether closure is seen to need no further pair of i; the row is the pairs of i. An order of few positions is
+    // asked a row at a time, and of others only an empty row is told so.
+    fn is_full(&self, row: &[(u32, u32)], i: u32) -> bool
+        ensures { IsTrue result → list_all (λ p. is_subset (after_of self.now p.1) (after_of self.now i)) row.now ≡ true }
+    {
+        row.is_empty() || !self.halves && is_full_row(self.order, row, i)
+    }
+}
+
+// Whether i is before all positions that a second position of the row is before.
+fn is_full_row(order: &PairList, row: &[(u32, u32)], i: u32) -> bool
+    ensures { result ≡ list_all (λ p. is_subset (after_of order.now p.1) (after_of order.now i)) row.now }
+{
+    row.iter().all(|p| order.after(p.1).within(&order.after(i)))
 }
 
 // Whether j is after the second position of a pair of the row.
@@ -191,7 +207,7 @@ fn gap_in_row(order: &Lookup<'_>, row: &[(u32, u32)], i: u32, n: u32) -> Option<
     requires row { (j : ℕ) → leads_to order.now (i, j) ≡ list_any (λ p. is_before order.now p.1 j) row.now }
     ensures { result ≡ find (is_gap order.now) (before_each i (i + 1) (n - (i + 1))) }
 {
-    if row.is_empty() {
+    if order.is_full(row, i) {
         return None;
     }
     for j in i + 1..n {
@@ -213,7 +229,8 @@ fn pairs_of(alloc: Global, order: &PairList) -> Result<Vec<(u32, u32)>, NoMemory
     Ok(pairs)
 }
 
-// The least pair that closure needs and the list lacks. One row after the other is looked at.
+// The least pair that closure needs and the list lacks. One row after the other is judged as a whole, and only one
+// that has a gap is looked through.
 fn first_gap(alloc: Global, order: &PairList, n: u32) -> Result<Option<(u32, u32)>, NoMemory>
     requires { is_rising order.now ≡ true }
     ensures { IfOk result (λ told. told ≡ first_gap n order.now) }
@@ -240,6 +257,14 @@ fn first_gap(alloc: Global, order: &PairList, n: u32) -> Result<Option<(u32, u32
 /// It is the first listed pair that isn't i < j < n, or isn't greater than the pair before it. Where there is no such
 /// pair, it is the least pair that closure needs and the list lacks.
 pub fn order_misfit(alloc: Global, order: &PairList, n: u32) -> Result<Option<(u32, u32)>, NoMemory>
+    ensures told { IfOk result (λ told. told ≡ order_misfit n order.now) }
+    ensures exact { (order_misfit n order.now ≡ None) ↔ (is_order n order.now ≡ true) }
+{
+    misfit_of_order(alloc, order, n)
+}
+
+// The same, told by its definition alone.
+fn misfit_of_order(alloc: Global, order: &PairList, n: u32) -> Result<Option<(u32, u32)>, NoMemory>
     ensures { IfOk result (λ told. told ≡ order_misfit n order.now) }
 {
     if order.is_total(n as usize) {
@@ -259,7 +284,7 @@ fn first_disorder(alloc: Global, node: &Node) -> Result<Option<Misfit>, NoMemory
     match node {
         Node::Step { .. } => Ok(None),
         Node::Block { id, kids, order } => {
-            match order_misfit(alloc, order, kids.len() as u32)? {
+            match misfit_of_order(alloc, order, kids.len() as u32)? {
                 Some((i, j)) => return Ok(Some(Misfit::Order { block: *id, i, j })),
                 None => {}
             }

@@ -25,7 +25,7 @@ pub enum Node {
 impl Node {
     ghost use Rattle.bd_base.specs.Pairs.{without_pair};
     ghost use Rattle.bd_tree.specs.declared.node.Node.{Node, Block};
-    ghost use Rattle.std.specs.Prelude.{ℕ, List, ◌≡◌, ◌+◌, ◌++◌, ◌<◌, ◌^◌, ◌↔◌, true, IsTrue, IfOk, OnOk};
+    ghost use Rattle.std.specs.Prelude.{ℕ, List, ◌≡◌, ◌+◌, ◌-◌, ◌++◌, ◌<◌, ◌^◌, ◌↔◌, min, true, IsTrue, IfOk, OnOk};
     ghost use Rattle.std.specs.Option.{option_copied};
     ghost use Rattle.bd_tree.specs.Tree.{id_of, ids_of, greatest, depth_of, steps_of, nodes_of, pairs_of, listed_of, find_in};
     ghost use Rattle.bd_tree.specs.WellFormed.{has_orders};
@@ -68,6 +68,23 @@ impl Node {
                 let mut sum = 0;
                 for kid in kids.as_slice() {
                     sum += kid.steps();
+                }
+                sum
+            }
+        }
+    }
+
+    /// How many nodes it has, itself among them; a number that 64 bits can't hold is told as the greatest of them. So it
+    /// is below 2^32 exactly where the node meets the condition of the calls that ask for fewer nodes than that.
+    pub fn nodes(&self) -> u64
+        ensures { result ≡ min (nodes_of self.now) (2 ^ 64 - 1) }
+    {
+        match self {
+            Node::Step { .. } => 1,
+            Node::Block { kids, .. } => {
+                let mut sum = 1u64;
+                for kid in kids.as_slice() {
+                    sum = sum.saturating_add(kid.nodes());
                 }
                 sum
             }

@@ -1,15 +1,13 @@
-ghost use Rattle.std.specs.Prelude.{◌≡◌, ◌<◌, ◌^◌, [], ◌∷◌, IfOk};
-ghost use Rattle.bd_tree.specs.declared.node.Node.{Step, Block};
+// Each call that takes memory once where there is enough, on trees whose values are worked by hand.
+ghost use Rattle.std.specs.Prelude.{◌<◌, ◌^◌, IfOk};
 ghost use Rattle.bd_tree.specs.Tree.{nodes_of};
 
-use crate::{Node, Tree, is_convex};
+use crate::{Misfit, Node, Tree, is_convex, order_misfit};
 use bd_base::{ActionId, FromItems, Items, NoMemory, NodeId, PairList};
 use std::alloc::Global;
 use std::test::Fail;
 
-fn step(id: u64, action: u32) -> Node
-    ensures { result ≡ Step id action }
-{
+fn step(id: u64, action: u32) -> Node {
     Node::Step {
         id: NodeId(id),
         action: ActionId(action),
@@ -22,9 +20,7 @@ fn block(
     first: Node,
     second: Node,
     pairs: &[(u32, u32)],
-) -> Result<Node, NoMemory>
-    ensures { IfOk result (λ n. n ≡ Block id (first ∷ second ∷ []) pairs.now) }
-{
+) -> Result<Node, NoMemory> {
     let mut kids = Vec::new(alloc);
     kids.push(first)?;
     kids.push(second)?;
@@ -35,111 +31,82 @@ fn block(
     })
 }
 
-// A block of two steps that aren't ordered, and then a block of two steps that are.
-fn two_blocks(alloc: Global) -> Result<Node, NoMemory>
-    ensures { IfOk result (λ n. n ≡ Block 0 (Block 1 (Step 2 5 ∷ Step 3 6 ∷ []) [] ∷ Block 4 (Step 5 7 ∷ Step 6 8 ∷ []) ((0, 1) ∷ []) ∷ []) ((0, 1) ∷ [])) }
-{
+// A block of two steps that aren't ordered, and behind it one of two steps that are.
+fn two_blocks(alloc: Global) -> Result<Node, NoMemory> {
     let first = block(alloc, 1, step(2, 5), step(3, 6), &[])?;
-    let second = block(alloc, 4, step(5, 7), step(6, 8), &[(0, 1)])?;
+    let second = block(alloc, 4, step(5, 6), step(6, 8), &[(0, 1)])?;
     block(alloc, 0, first, second, &[(0, 1)])
 }
 
-fn nested(alloc: Global) -> Result<Tree, NoMemory>
+// The tree with this root, where it has few nodes.
+fn tree_of(alloc: Global, root: Node) -> Result<Tree, Misfit>
     ensures { IfOk result (λ t. nodes_of t < 2 ^ 32) }
 {
-    Ok(Tree::of(two_blocks(alloc)?))
+    if root.nodes() >= 1 << 32 {
+        return Err(Misfit::NoMemory);
+    }
+    Tree::new(alloc, root)
 }
 
-fn three_steps(alloc: Global) -> Result<Tree, NoMemory>
-    ensures { IfOk result (λ t. nodes_of t < 2 ^ 32) }
-{
-    Tree::chain(alloc, &[ActionId(7), ActionId(7), ActionId(9)])
+fn actions(alloc: Global, list: &[u32]) -> Result<Vec<ActionId>, NoMemory> {
+    let mut actions = Vec::new(alloc);
+    for a in list {
+        actions.push(ActionId(*a))?;
+    }
+    Ok(actions)
 }
 
 #[test]
-fn a_chain_is_counted_and_listed(rt: HostRuntime) -> Result<(), Fail> {
-    let tree = three_steps(rt.alloc())?;
-    assert_eq!(rt; tree.steps(), 3);
-    assert_eq!(rt; tree.depth(), 2);
-    assert_eq!(rt; tree.pairs(), 3);
-    assert_eq!(rt; tree.top_id(), NodeId(3));
-    let list = tree.listed(rt.alloc())?;
-    assert_eq!(rt;
-        list.as_slice(),
-        [ActionId(7), ActionId(7), ActionId(9)].as_slice()
-    );
-    Ok(())
-}
-
-#[test]
-fn nested_blocks_are_counted_and_listed(rt: HostRuntime) -> Result<(), Fail> {
-    let tree = nested(rt.alloc())?;
+fn a_tree_is_made_and_counted(rt: HostRuntime) -> Result<(), Fail> {
+    let alloc = rt.alloc();
+    let tree = tree_of(alloc, two_blocks(alloc)?).map_err(|_| "no tree")?;
+    assert_eq!(rt; tree.nodes(), 7);
     assert_eq!(rt; tree.steps(), 4);
     assert_eq!(rt; tree.depth(), 3);
     assert_eq!(rt; tree.pairs(), 5);
     assert_eq!(rt; tree.top_id(), NodeId(6));
-    let list = tree.try_copy(rt.alloc())?.listed(rt.alloc())?;
-    assert_eq!(rt;
-        list.as_slice(),
-        [ActionId(5), ActionId(6), ActionId(7), ActionId(8)].as_slice()
-    );
     Ok(())
 }
 
 #[test]
-fn nodes_are_found_by_their_ids(rt: HostRuntime) -> Result<(), Fail> {
-    let tree = nested(rt.alloc())?;
-    for id in 0..7 {
-        assert_eq!(rt; tree.find(NodeId(id)).map(|node| node.id().0), Some(id));
-    }
-    assert!(rt; tree.find(NodeId(7)).is_none());
-    assert!(rt; tree.find(NodeId(9)).is_none());
-    assert_eq!(rt; tree.root().id(), NodeId(0));
+fn a_tree_is_copied_and_listed(rt: HostRuntime) -> Result<(), Fail> {
+    let alloc = rt.alloc();
+    let node = two_blocks(alloc)?;
+    let tree = tree_of(alloc, node.try_copy(alloc)?).map_err(|_| "no tree")?;
+    let copy = tree.try_copy(alloc)?;
+    assert!(rt; node.same(copy.root()));
+    let list = copy.listed(alloc)?;
+    assert_eq!(rt; list.as_slice(), actions(alloc, &[5, 6, 6, 8])?.as_slice());
+    Ok(())
+}
+
+// The list's second 6 may only be the step of the first block, so a kid that fits first must be given back.
+#[test]
+fn lists_are_decided(rt: HostRuntime) -> Result<(), Fail> {
+    let alloc = rt.alloc();
+    let tree = tree_of(alloc, two_blocks(alloc)?).map_err(|_| "no tree")?;
+    assert!(rt; tree.is_linearisation(alloc, &actions(alloc, &[6, 5, 6, 8])?)?);
+    assert!(rt; !tree.is_linearisation(alloc, &actions(alloc, &[6, 6, 5, 8])?)?);
+    assert!(rt; !tree.is_linearisation(alloc, &actions(alloc, &[5, 6, 8, 6])?)?);
     Ok(())
 }
 
 #[test]
-fn kids_are_convex_where_no_other_kid_is_between(rt: HostRuntime) -> Result<(), Fail> {
-    let tree = three_steps(rt.alloc())?;
-    assert!(rt; is_convex(tree.root(), &[NodeId(1), NodeId(2)]));
+fn a_chain_is_made(rt: HostRuntime) -> Result<(), Fail> {
+    let alloc = rt.alloc();
+    let tree = Tree::chain(alloc, &actions(alloc, &[7, 7, 9])?)?;
+    assert_eq!(rt; tree.nodes(), 4);
     assert!(rt; is_convex(tree.root(), &[NodeId(3), NodeId(2)]));
-    assert!(rt; is_convex(tree.root(), &[]));
     assert!(rt; !is_convex(tree.root(), &[NodeId(1), NodeId(3)]));
     Ok(())
 }
 
-// The order may be one of no tree: here the first kid is after the last and before the second.
 #[test]
-fn a_kid_parts_later_members_of_an_order_that_falls(rt: HostRuntime) -> Result<(), Fail> {
-    let mut kids = Vec::new(rt.alloc());
-    for id in 1..4 {
-        kids.push(step(id, 5))?;
-    }
-    let node = Node::Block {
-        id: NodeId(0),
-        kids: Items::of(kids),
-        order: PairList::of(rt.alloc(), &[(2, 0), (0, 1)])?,
-    };
-    assert!(rt; !is_convex(&node, &[NodeId(2), NodeId(3)]));
-    assert!(rt; is_convex(&node, &[NodeId(1), NodeId(3)]));
-    Ok(())
-}
-
-#[test]
-fn a_node_is_the_same_as_its_copy(rt: HostRuntime) -> Result<(), Fail> {
-    let node = two_blocks(rt.alloc())?;
-    assert!(rt; node.same(&node.try_copy(rt.alloc())?));
-    let other = three_steps(rt.alloc())?;
-    assert!(rt; !node.same(other.root()));
-    assert!(rt; !other.root().same(&node));
-    Ok(())
-}
-
-#[test]
-fn a_block_with_another_order_is_another(rt: HostRuntime) -> Result<(), Fail> {
-    let node = block(rt.alloc(), 1, step(2, 5), step(3, 6), &[])?;
-    let forged = block(rt.alloc(), 1, step(2, 5), step(3, 6), &[(0, 1)])?;
-    assert!(rt; !node.same(&forged));
-    assert!(rt; !forged.same(&node));
+fn an_order_of_few_and_of_many_kids_tells_its_gap(rt: HostRuntime) -> Result<(), Fail> {
+    let alloc = rt.alloc();
+    let few = PairList::of(alloc, &[(0, 1), (1, 2), (2, 3)])?;
+    assert_eq!(rt; order_misfit(alloc, &few, 4), Ok(Some((0, 2))));
+    let many = PairList::of(alloc, &[(0, 1), (0, 9000), (1, 9000)])?;
+    assert_eq!(rt; order_misfit(alloc, &many, 9001), Ok(None));
     Ok(())
 }

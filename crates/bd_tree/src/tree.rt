@@ -1,4 +1,4 @@
-ghost use Rattle.std.specs.Prelude.{◌≡◌, ◌+◌, ◌<◌, ◌≤◌, ◌^◌, ◌↔◌, None, false, length, IfOk, IsTrue};
+ghost use Rattle.std.specs.Prelude.{◌≡◌, ◌+◌, ◌-◌, ◌<◌, ◌≤◌, ◌^◌, ◌↔◌, None, false, length, min, IfOk, IsTrue};
 
 use crate::deciding::linearises;
 use crate::misfit::first_misfit;
@@ -121,6 +121,13 @@ impl Tree {
         ensures { result ≡ steps_of self.now }
     {
         self.root.steps()
+    }
+
+    /// How many nodes it has, as `Node::nodes` tells it.
+    pub fn nodes(&self) -> u64
+        ensures { result ≡ min (nodes_of self.now) (2 ^ 64 - 1) }
+    {
+        self.root.nodes()
     }
 
     /// How many levels it has: 1 for a root with no kids, and 2 for a chain of one step or more.
