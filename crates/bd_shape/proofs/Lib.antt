@@ -5,6 +5,7 @@ pub mod CanLemmas
 pub mod CopyLemmas
 pub mod ExactLemmas
 pub mod GroupLemmas
+pub mod HullLemmas
 pub mod KidLemmas
 pub mod OrderLemmas
 pub mod PairLemmas

@@ -35,3 +35,11 @@ hull_in_layer i j (Node-F.Block id kids order) = map (λ k. id_of k.1) (filter (
 -- the ids of the hull of two kids, in the listing
 abbrev pub hull_of : Node → ℕ → ℕ → List ℕ
 hull_of node i j = hull_in_layer i j (out-Node node)
+
+abbrev pub two_in_layer : ℕ → ℕ → Node-F Node → List ℕ
+two_in_layer i j (Node-F.Step id action) = []
+two_in_layer i j (Node-F.Block id kids order) = map (λ k. id_of k.1) (filter (is_member (i ∷ j ∷ [])) (enumerate_from 0 kids))
+
+-- the ids of the two kids alone, in the listing
+abbrev pub the_two : Node → ℕ → ℕ → List ℕ
+the_two node i j = two_in_layer i j (out-Node node)

@@ -1,11 +1,11 @@
-ghost use Rattle.std.specs.Prelude.{◌≡◌, ◌&&◌, ◌||◌, [], ◌∷◌, ◌++◌, map, filter, IfOk, OnOk};
+ghost use Rattle.std.specs.Prelude.{◌≡◌, ◌&&◌, ◌||◌, false, [], ◌∷◌, ◌++◌, map, filter, IfOk, OnOk};
 ghost use Rattle.std.specs.List.{enumerate_from, list_any};
 ghost use Rattle.bd_base.specs.Facts.{is_subset};
 ghost use Rattle.bd_base.specs.Pairs.{is_before};
 ghost use Rattle.bd_tree.specs.Convex.{is_member};
 ghost use Rattle.bd_tree.specs.Tree.{id_of};
 ghost use Rattle.bd_tree.specs.WellFormed.{are_distinct};
-ghost use Rattle.bd_shape.specs.Hull.{has_between, is_in_hull, hull_of};
+ghost use Rattle.bd_shape.specs.Hull.{has_between, is_in_hull, hull_of, the_two};
 ghost use Rattle.bd_shape.specs.Kids.{kid_ids, are_kids};
 ghost use Rattle.bd_shape.specs.Sides.{AreSides};
 
@@ -14,8 +14,18 @@ use bd_base::{FromItems, IdList, Items, NoMemory, NodeId, PairList};
 use bd_tree::{Members, Node, comes_before};
 use std::alloc::Global;
 
-/// The ids of the hull of two kids of the block, in the listing: the two, and every kid between them.
+/// The ids of the hull of two kids of the block, in the listing: the two, and every kid between them. It is just the two
+/// where no kid is between them: in a closed order, as each order of a tree is, wherever they aren't ordered. A lent
+/// node may have an order that isn't closed, and then a kid may be between two that aren't ordered.
 pub fn hull(alloc: Global, block: &Node, i: NodeId, j: NodeId) -> Result<IdList, NoMemory>
+    ensures hull { IfOk result (λ ids. ids ≡ hull_of block.now i j) }
+    ensures alone { has_between block.now i j ≡ false → has_between block.now j i ≡ false → hull_of block.now i j ≡ the_two block.now i j }
+{
+    hull_ids(alloc, block, i, j)
+}
+
+// The same, told by its definition alone.
+fn hull_ids(alloc: Global, block: &Node, i: NodeId, j: NodeId) -> Result<IdList, NoMemory>
     ensures { IfOk result (λ ids. ids ≡ hull_of block.now i j) }
 {
     let mut ids = Vec::new(alloc);

@@ -1,4 +1,4 @@
-ghost use Rattle.std.specs.Prelude.{◌≡◌, ℕ, [], IfOk};
+ghost use Rattle.std.specs.Prelude.{◌≡◌, ℕ, ◌≤◌, ◌^◌, [], IfOk, MatchResult};
 ghost use Rattle.std.specs.List.{enumerate_from};
 ghost use Rattle.bd_base.specs.Facts.{has};
 ghost use Rattle.bd_tree.specs.Convex.{is_after_some, is_before_some};
@@ -41,9 +41,9 @@ pub fn no_sides(alloc: Global) -> Sides
     }
 }
 
-/// The position as the orders write it.
+/// The position as the orders write it. It takes no memory, and answers an error only for one of 2^32 or more.
 pub fn position(at: usize) -> Result<u32, NoMemory>
-    ensures { IfOk result (λ n. n ≡ at) }
+    ensures { MatchResult result (λ n. n ≡ at) (λ _. 2 ^ 32 ≤ at) }
 {
     match u32::try_from(at) {
         Ok(n) => Ok(n),
