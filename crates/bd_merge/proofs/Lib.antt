@@ -6,4 +6,5 @@ pub mod PartLemmas
 pub mod RowLemmas
 pub mod StandLemmas
 pub mod TurnLemmas
+pub mod WalkLemmas
 pub mod WholeLemmas

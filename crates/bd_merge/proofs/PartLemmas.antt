@@ -168,7 +168,7 @@ module _ (q : ℕ) where
     found_within : (n : Node) → IsWithin n
     found_within = by_node IsWithin within_step within_block
 
-kids_distinct : (root : Node) (id own : ℕ) (kids : List Node) (order : List (ℕ × ℕ)) → are_distinct (ids_of root) ≡ true → find_in id root ≡ Some (Block own kids order) → are_distinct (map id_of kids) ≡ true
+pub kids_distinct : (root : Node) (id own : ℕ) (kids : List Node) (order : List (ℕ × ℕ)) → are_distinct (ids_of root) ≡ true → find_in id root ≡ Some (Block own kids order) → are_distinct (map id_of kids) ≡ true
 kids_distinct root id own kids order d found = distinct_if (map id_of kids) (λ q.
     let inside : times_in q (Block own kids order) ≤ times_in q root = found_within q id root (Block own kids order) found in
     let once : times_in q root ≤ 1 = times_once q (ids_of root) d in

@@ -1,3 +1,4 @@
 pub mod FrontEnd
 pub mod Merged
 pub mod Stands
+pub mod Walked

@@ -1,4 +1,4 @@
-use Rattle.std.proofs.Common.{◌≡◌, ◌++◌, List, ℕ, map, ap, ◌∙◌, arith}
+use Rattle.std.proofs.Common.{◌++◌, List, ℕ, map, ap, ◌∙◌, arith}
 use Rattle.bd_merge.specs.Merged.{merged_order}
 use Rattle.bd_merge.proofs.RowLemmas.{one_row}
 use Rattle.bd_merge.proofs.merging.new_order.Goals as goal
