@@ -94,7 +94,7 @@ fn lists_are_decided(rt: HostRuntime) -> Result<(), Fail> {
 #[test]
 fn a_chain_is_made(rt: HostRuntime) -> Result<(), Fail> {
     let alloc = rt.alloc();
-    let tree = Tree::chain(alloc, &actions(alloc, &[7, 7, 9])?)?;
+    let tree = Tree::chain(alloc, &[ActionId(7), ActionId(7), ActionId(9)])?;
     assert_eq!(rt; tree.nodes(), 4);
     assert!(rt; is_convex(tree.root(), &[NodeId(3), NodeId(2)]));
     assert!(rt; !is_convex(tree.root(), &[NodeId(1), NodeId(3)]));
