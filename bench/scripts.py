@@ -9,6 +9,8 @@ The kinds, on a plan of STEPS steps:
     unlinked   the same chain; each offer takes a needed step out, and is refused by the link check
     nested     `replace` on a start tree of blocks of ten steps, each before all later ones
     loose      the same on blocks that are unordered
+    almost     `replace` on a flat tree in which all steps are in turn but for the last two, which a first tightening unorders
+    flat       `replace` on a flat tree of unordered chains of ten steps
     tighten    steps that need nothing, in a chain; each offer unorders two of them, and is accepted
     tight      steps in pairs, the second of which needs the first; each offer unorders such a pair, and is refused
     rebuild    `replace` and, after each, a rebuild as unordered chains of ten steps
@@ -99,6 +101,23 @@ def loose(steps, offers):
     return in_blocks(steps, offers, True, "")
 
 
+def almost(steps, offers):
+    lines = chains(steps, offers, False)
+    at = next(n for n, line in enumerate(lines) if line.startswith("init"))
+    lines[at:at] = [f"action (rest {k}) 1 pre add del" for k in range(2)]
+    lines[-1] += " (rest 0) (rest 1)"
+    lines.append(f"tighten 0 left {steps + 1} right {steps + 2}")
+    return lines + list(cheaper(steps, offers, steps + 2, lambda k: 0))
+
+
+def flat(steps, offers):
+    top = levels(steps, offers)
+    nodes = " ".join(f"{k + 1}:(do {k} {top - 1})" for k in range(steps))
+    order = " ".join(turn(low, high) for low, high in groups(steps))
+    return chains(steps, offers, True) + [f"start 0{{ {nodes} | {order} }}"] + list(
+        cheaper(steps, offers, steps, lambda k: 0))
+
+
 def tighten(steps, offers):
     lines = [f"fact ({k})" for k in range(steps)]
     lines += [f"action (do {k}) 1 pre add ({k}) del" for k in range(steps)]
@@ -134,7 +153,7 @@ def text(steps, offers):
     return lines[:at] + spare + lines[at:]
 
 
-KINDS = {f.__name__: f for f in (replace, unlinked, nested, loose, tighten, tight, rebuild, text)}
+KINDS = {f.__name__: f for f in (replace, unlinked, nested, loose, almost, flat, tighten, tight, rebuild, text)}
 
 
 def main():

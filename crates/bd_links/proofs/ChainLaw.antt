@@ -12,7 +12,7 @@ use Rattle.bd_task.specs.Run.{after, step_by, run_on, run}
 use Rattle.bd_task.specs.Valid.{HoldsIn, IsValid}
 use Rattle.bd_tree.specs.Chain.{steps_from, chain_of}
 use Rattle.bd_links.specs.declared.parts.Effects.{Effects}
-use Rattle.bd_links.specs.declared.parts.Child.{Child}
+use Rattle.bd_links.specs.Child.{Child}
 use Rattle.bd_links.specs.Effects.{step_effects, block_effects}
 use Rattle.bd_links.specs.Faults.{first_of, inside, block_fault, holds_after, root_fault}
 use Rattle.bd_links.specs.InTurn.{no_effects, turn, turns, turns_fault}

@@ -10,7 +10,7 @@ use Rattle.bd_task.proofs.BelowLemmas.{below-filter, below-plus}
 use Rattle.bd_tree.specs.declared.node.Node.{Node, Step, Block}
 use Rattle.bd_tree.proofs.NodeLemmas.{Each, by_node}
 use Rattle.bd_links.specs.declared.parts.Effects.{Effects}
-use Rattle.bd_links.specs.declared.parts.Child.{Child}
+use Rattle.bd_links.specs.Child.{Child}
 use Rattle.bd_links.specs.declared.parts.Fault.{Fault}
 use Rattle.bd_links.specs.Effects.{Kid, Order, step_effects, block_effects, with_facts, is_needed, is_given, is_deleted, is_safe}
 use Rattle.bd_links.specs.Faults.{first_of, inside, kid_fault, block_fault, holds_after, need_fault, goal_fault, root_fault, fact_of}

@@ -7,7 +7,7 @@ use Rattle.bd_base.specs.Facts.{IsRising, has, minus, plus}
 use Rattle.bd_base.specs.Pairs.{total_order}
 use Rattle.bd_base.proofs.FactLemmas.{has-plus, has-minus, rising-plus, rising-minus, rising_same}
 use Rattle.bd_links.specs.declared.parts.Effects.{Effects}
-use Rattle.bd_links.specs.declared.parts.Child.{Child}
+use Rattle.bd_links.specs.Child.{Child}
 use Rattle.bd_links.specs.Effects.{Kid, is_linked, is_needed, is_given, is_deleted, is_safe, all_facts, block_effects}
 use Rattle.bd_links.specs.Faults.{first_of, inside, kid_fault, block_fault}
 use Rattle.bd_links.specs.InTurn.{no_effects, turn, turns, turns_fault}

@@ -6,7 +6,7 @@ use Rattle.std.proofs.lemmas.Bool.{cases_Bool, both_ways, and_parts, and_from, o
 use Rattle.std.proofs.lemmas.List.{drop_all}
 use Rattle.bd_base.specs.Facts.{has}
 use Rattle.bd_base.specs.Pairs.{is_before}
-use Rattle.bd_links.specs.declared.parts.Child.{Child}
+use Rattle.bd_links.specs.Child.{Child}
 use Rattle.bd_links.specs.declared.parts.Fault.{Fault}
 use Rattle.bd_links.specs.declared.parts.Fault.TheVariants.{Inside}
 use Rattle.bd_links.specs.declared.parts.Touches.{Touches}

@@ -6,7 +6,7 @@ use Rattle.std.proofs.lemmas.List.{take_all, drop_all}
 use Rattle.bd_task.specs.declared.ground.Action.{Action}
 use Rattle.bd_tree.specs.declared.node.Node.{Node, Block}
 use Rattle.bd_links.specs.declared.parts.Effects.{Effects}
-use Rattle.bd_links.specs.declared.parts.Child.{Child}
+use Rattle.bd_links.specs.Child.{Child}
 use Rattle.bd_links.specs.declared.parts.Fault.{Fault}
 use Rattle.bd_links.specs.declared.parts.Stop.{Stop}
 use Rattle.bd_links.specs.declared.parts.Stop.TheVariants.{Found, NoMemory}

@@ -5,7 +5,7 @@ use Rattle.std.specs.Cmp.{both_ways}
 use Rattle.std.proofs.lemmas.Bool.{or_cases, or_parts, and_parts, and_from, or_left, or_right, or_from, and_left, cases_order, eq-eqb, ne_eqb, eqb-true, false_from_ne_true, not-true, not_from_false}
 use Rattle.bd_base.specs.Facts.{has}
 use Rattle.bd_base.specs.Pairs.{is_before, before_each, in_turn, total_order}
-use Rattle.bd_links.specs.declared.parts.Child.{Child}
+use Rattle.bd_links.specs.Child.{Child}
 use Rattle.bd_links.specs.Effects.{Kid, links, is_linked, gives, is_given, is_safe}
 use Rattle.bd_links.proofs.Members.{In, here, there, any_some, some_any, all_at, all_from}
 

@@ -5,7 +5,7 @@ use Rattle.bd_base.specs.Facts.{has, plus}
 use Rattle.bd_base.specs.Pairs.{is_before}
 use Rattle.bd_task.specs.declared.ground.Action.{Action}
 use Rattle.bd_links.specs.declared.parts.Effects.{Effects}
-use Rattle.bd_links.specs.declared.parts.Child.{Child}
+use Rattle.bd_links.specs.Child.{Child}
 
 -- a kid by its position in the block's listing
 abbrev pub Kid : Type 0

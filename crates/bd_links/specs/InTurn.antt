@@ -3,7 +3,7 @@ use Rattle.std.specs.Prelude.{ℕ, not, List, [], ◌∷◌, filter, find, Optio
 use Rattle.std.specs.Option.{option_or}
 use Rattle.bd_base.specs.Facts.{has, minus, plus}
 use Rattle.bd_links.specs.declared.parts.Effects.{Effects}
-use Rattle.bd_links.specs.declared.parts.Child.{Child}
+use Rattle.bd_links.specs.Child.{Child}
 use Rattle.bd_links.specs.declared.parts.Fault.{Fault}
 use Rattle.bd_links.specs.Faults.{inside}
 

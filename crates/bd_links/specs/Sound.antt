@@ -11,7 +11,7 @@ use Rattle.bd_tree.specs.declared.node.Node.TheOpen.{Node-F}
 use Rattle.bd_tree.specs.declared.node.Node.TheFolds.{fold-Node}
 use Rattle.bd_tree.specs.Linearisation.{IsLinearisation}
 use Rattle.bd_links.specs.declared.parts.Effects.{Effects}
-use Rattle.bd_links.specs.declared.parts.Child.{Child}
+use Rattle.bd_links.specs.Child.{Child}
 use Rattle.bd_links.specs.declared.parts.Fault.{Fault}
 use Rattle.bd_links.specs.Effects.{Kid, block_effects, step_effects, are_safe}
 use Rattle.bd_links.specs.Faults.{first_of, block_fault, holds_after, root_fault}

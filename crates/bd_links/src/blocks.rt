@@ -15,7 +15,7 @@ use std::alloc::Global;
 pub fn effects_of_block(
     alloc: Global,
     order: &PairList,
-    kids: &[Child],
+    kids: &[Child<'_>],
 ) -> Result<Effects, NoMemory>
     ensures { IfOk result (λ e. e ≡ block_effects order.now (enumerate_from 0 kids.now)) }
 {
@@ -31,7 +31,7 @@ pub fn judge_block(
     alloc: Global,
     block: NodeId,
     order: &PairList,
-    kids: &[Child],
+    kids: &[Child<'_>],
 ) -> Result<Effects, Stop>
     ensures { Judges (block_fault block order.now (enumerate_from 0 kids.now)) (block_effects order.now (enumerate_from 0 kids.now)) result }
 {

@@ -4,7 +4,7 @@ ghost use Rattle.bd_base.specs.Facts.{has, plus};
 ghost use Rattle.bd_links.specs.InTurn.{no_effects, turn, turns, turns_fault};
 ghost use Rattle.bd_links.specs.Judged.{Judges};
 
-use crate::parts::{Child, Effects, Fault, Stop};
+use crate::parts::{Child, Effects, Stop};
 use bd_base::{FactId, FactSet, NoMemory, NodeId};
 use std::alloc::Global;
 
@@ -36,24 +36,24 @@ fn need_more(
 }
 
 // The effects so far, and then the kid's.
-fn take_turn(alloc: Global, e: &mut Effects, kid: &Effects) -> Result<(), NoMemory>
-    ensures { IfOk result (λ _. e.new ≡ turn e.old kid.now) }
+fn take_turn(alloc: Global, e: &mut Effects, kid: &Child<'_>) -> Result<(), NoMemory>
+    ensures { IfOk result (λ _. e.new ≡ turn e.old kid.now.effects) }
 {
-    need_more(alloc, &mut e.need, &e.add, &kid.need)?;
-    e.add.minus(&kid.del);
-    e.add.join(alloc, &kid.add)?;
-    e.del.join(alloc, &kid.del)?;
-    e.del.minus(&kid.add);
+    need_more(alloc, &mut e.need, &e.add, kid.need())?;
+    e.add.minus(kid.del());
+    e.add.join(alloc, kid.add())?;
+    e.del.join(alloc, kid.del())?;
+    e.del.minus(kid.add());
     Ok(())
 }
 
 /// The effects of kids that run in turn.
-pub fn effects_in_turn(alloc: Global, kids: &[Child]) -> Result<Effects, NoMemory>
+pub fn effects_in_turn(alloc: Global, kids: &[Child<'_>]) -> Result<Effects, NoMemory>
     ensures { IfOk result (λ e. e ≡ turns no_effects kids.now) }
 {
     let mut e = nothing();
     for kid in kids {
-        take_turn(alloc, &mut e, &kid.effects)?;
+        take_turn(alloc, &mut e, kid)?;
     }
     Ok(e)
 }
@@ -71,20 +71,16 @@ fn first_among(facts: &FactSet, s: &FactSet) -> Option<FactId>
 }
 
 /// The effects of kids that run in turn, or their first fault.
-pub fn judge_in_turn(alloc: Global, block: NodeId, kids: &[Child]) -> Result<Effects, Stop>
+pub fn judge_in_turn(alloc: Global, block: NodeId, kids: &[Child<'_>]) -> Result<Effects, Stop>
     ensures { Judges (turns_fault block no_effects kids.now) (turns no_effects kids.now) result }
 {
     let mut e = nothing();
     for kid in kids {
-        match first_among(&kid.effects.need, &e.del) {
+        match first_among(kid.need(), &e.del) {
             Some(fact) => {
-                return Err(Stop::Found(Fault::Inside {
-                    block,
-                    child: kid.id,
-                    fact,
-                }));
+                return Err(Stop::inside(block, kid.id(), fact));
             }
-            None => take_turn(alloc, &mut e, &kid.effects)?,
+            None => take_turn(alloc, &mut e, kid)?,
         }
     }
     Ok(e)

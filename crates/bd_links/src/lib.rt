@@ -6,7 +6,7 @@
 //! valid, and that `node_cost` is the sum over the node's steps.
 //! A block whose kids run in turn is judged by one pass over them. Any other is judged fact by fact: a map has
 //! the positions of the kids that give a fact and of those that delete it, and only those are asked how they
-//! are ordered. The bodies that follow the definitions kid by kid stay as what the tests compare these with.
+//! are ordered. A step's sets are lent by its action, and none is copied.
 #![tactic(auto)]
 
 mod blocks;
@@ -21,18 +21,12 @@ mod whole;
 
 pub use blocks::effects_of_block;
 pub use judging::check;
-pub use law::{chains_fit, chains_run, linearisations_run};
+pub use law::{chains_fit, chains_run, faultless_where_sound, linearisations_run};
 pub use links::{all_later, is_linked};
 pub use parts::{Child, Effects, Fault, Touches};
 pub use sets::adds_of_all;
 pub use touches::{deleters, givers, touches_of};
 pub use whole::{actions_fit, as_child, effects, node_cost};
 
-#[cfg(test)]
-mod lists_tests;
-#[cfg(test)]
-mod plain;
-#[cfg(test)]
-mod rows_tests;
 #[cfg(test)]
 mod tests;

@@ -8,28 +8,7 @@ ghost use Rattle.bd_links.specs.Rows.{any_gives, any_links, gives_past, given_by
 use crate::parts::Touches;
 use crate::touches::{deleters, givers};
 use bd_base::{FactId, PairList};
-
-/// Whether kid i is before kid j.
-pub fn comes_before(order: &PairList, i: usize, j: usize) -> bool
-    ensures { result ≡ is_before order.now i j }
-{
-    match (u32::try_from(i), u32::try_from(j)) {
-        (Ok(i), Ok(j)) => order.has(i, j),
-        _ => has_pair(order, i, j),
-    }
-}
-
-// The same by a walk, for positions that are no u32.
-fn has_pair(order: &PairList, i: usize, j: usize) -> bool
-    ensures { result ≡ is_before order.now i j }
-{
-    for p in order.iter() {
-        if p.0 as usize == i && p.1 as usize == j {
-            return true;
-        }
-    }
-    false
-}
+use bd_tree::comes_before;
 
 // Deleter d is kid j or after it.
 fn is_later(order: &PairList, j: usize, d: usize) -> bool

@@ -1,29 +1,17 @@
-// The effects of an action and of a block, as sets.
-ghost use Rattle.std.specs.Prelude.{◌≡◌, not, filter, find, None, IfOk, Some};
+// The effects of a block, as sets.
+ghost use Rattle.std.specs.Prelude.{◌≡◌, not, filter, find, None, IfOk};
 ghost use Rattle.std.specs.List.{enumerate_from};
 ghost use Rattle.bd_base.specs.Facts.{plus};
-ghost use Rattle.bd_links.specs.Effects.{all_facts, block_effects, step_effects};
+ghost use Rattle.bd_links.specs.Effects.{all_facts, block_effects};
 ghost use Rattle.bd_links.specs.Faults.{block_fault};
 ghost use Rattle.bd_links.specs.Judged.{Judges};
 ghost use Rattle.bd_links.specs.Rows.{Tells, linked_by, safe_by};
 
 use crate::links::{all_later, is_given, is_linked};
-use crate::parts::{Child, Effects, Fault, Stop, Touches};
+use crate::parts::{Child, Effects, Stop, Touches};
 use crate::touches::touches_of;
 use bd_base::{FactId, FactSet, NoMemory, NodeId, PairList};
-use bd_task::Action;
 use std::alloc::Global;
-
-/// What a step of the action needs, gives and deletes.
-pub fn action_effects(alloc: Global, action: &Action) -> Result<Effects, NoMemory>
-    ensures { IfOk result (λ e. e ≡ step_effects (Some action.now)) }
-{
-    Ok(Effects {
-        need: action.pre.try_copy(alloc)?,
-        add: action.add.try_copy(alloc)?,
-        del: action.del.try_copy(alloc)?,
-    })
-}
 
 // Adds the facts that kid j needs and isn't linked for.
 fn need_unlinked(
@@ -48,14 +36,14 @@ fn needs_of_block(
     alloc: Global,
     order: &PairList,
     touches: &Touches,
-    kids: &[Child],
+    kids: &[Child<'_>],
 ) -> Result<FactSet, NoMemory>
     requires { Tells touches.now (enumerate_from 0 kids.now) }
     ensures { IfOk result (λ s. s ≡ (block_effects order.now (enumerate_from 0 kids.now)).need) }
 {
     let mut need = FactSet::new();
     for (j, kid) in kids.iter().enumerate() {
-        need_unlinked(alloc, order, touches, j, &kid.effects.need, &mut need)?;
+        need_unlinked(alloc, order, touches, j, kid.need(), &mut need)?;
     }
     Ok(need)
 }
@@ -90,21 +78,17 @@ fn judged_needs(
     block: NodeId,
     order: &PairList,
     touches: &Touches,
-    kids: &[Child],
+    kids: &[Child<'_>],
 ) -> Result<FactSet, Stop>
     requires { Tells touches.now (enumerate_from 0 kids.now) }
     ensures { Judges (block_fault block order.now (enumerate_from 0 kids.now)) (block_effects order.now (enumerate_from 0 kids.now)).need result }
 {
     let mut need = FactSet::new();
     for (j, kid) in kids.iter().enumerate() {
-        let found = judge_needs(alloc, order, touches, j, &kid.effects.need, &mut need)?;
+        let found = judge_needs(alloc, order, touches, j, kid.need(), &mut need)?;
         match found {
             Some(fact) => {
-                return Err(Stop::Found(Fault::Inside {
-                    block,
-                    child: kid.id,
-                    fact,
-                }));
+                return Err(Stop::inside(block, kid.id(), fact));
             }
             None => {}
         }
@@ -113,12 +97,12 @@ fn judged_needs(
 }
 
 /// The facts that the kids give.
-pub fn adds_of_all(alloc: Global, kids: &[Child]) -> Result<FactSet, NoMemory>
+pub fn adds_of_all(alloc: Global, kids: &[Child<'_>]) -> Result<FactSet, NoMemory>
     ensures { IfOk result (λ s. s ≡ all_facts (λ e. e.add) (enumerate_from 0 kids.now)) }
 {
     let mut s = FactSet::new();
     for kid in kids {
-        s.join(alloc, &kid.effects.add)?;
+        s.join(alloc, kid.add())?;
     }
     Ok(s)
 }
@@ -127,7 +111,7 @@ fn adds_of_block(
     alloc: Global,
     order: &PairList,
     touches: &Touches,
-    kids: &[Child],
+    kids: &[Child<'_>],
 ) -> Result<FactSet, NoMemory>
     requires { Tells touches.now (enumerate_from 0 kids.now) }
     ensures { IfOk result (λ s. s ≡ (block_effects order.now (enumerate_from 0 kids.now)).add) }
@@ -143,12 +127,12 @@ fn adds_of_block(
 }
 
 /// The facts that the kids delete.
-pub fn dels_of_all(alloc: Global, kids: &[Child]) -> Result<FactSet, NoMemory>
+pub fn dels_of_all(alloc: Global, kids: &[Child<'_>]) -> Result<FactSet, NoMemory>
     ensures { IfOk result (λ s. s ≡ all_facts (λ e. e.del) (enumerate_from 0 kids.now)) }
 {
     let mut s = FactSet::new();
     for kid in kids {
-        s.join(alloc, &kid.effects.del)?;
+        s.join(alloc, kid.del())?;
     }
     Ok(s)
 }
@@ -158,7 +142,7 @@ fn effects_with(
     alloc: Global,
     order: &PairList,
     touches: &Touches,
-    kids: &[Child],
+    kids: &[Child<'_>],
     need: FactSet,
 ) -> Result<Effects, NoMemory>
     requires touches { Tells touches.now (enumerate_from 0 kids.now) }
@@ -175,7 +159,7 @@ fn effects_with(
 pub fn effects_of_links(
     alloc: Global,
     order: &PairList,
-    kids: &[Child],
+    kids: &[Child<'_>],
 ) -> Result<Effects, NoMemory>
     ensures { IfOk result (λ e. e ≡ block_effects order.now (enumerate_from 0 kids.now)) }
 {
@@ -189,7 +173,7 @@ pub fn judge_links(
     alloc: Global,
     block: NodeId,
     order: &PairList,
-    kids: &[Child],
+    kids: &[Child<'_>],
 ) -> Result<Effects, Stop>
     ensures { Judges (block_fault block order.now (enumerate_from 0 kids.now)) (block_effects order.now (enumerate_from 0 kids.now)) result }
 {

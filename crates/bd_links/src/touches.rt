@@ -28,14 +28,14 @@ fn note_all(alloc: Global, places: &mut Places, facts: &FactSet, j: usize) -> Re
 }
 
 /// The kids that give each fact, and those that delete it.
-pub fn touches_of(alloc: Global, kids: &[Child]) -> Result<Touches, NoMemory>
+pub fn touches_of(alloc: Global, kids: &[Child<'_>]) -> Result<Touches, NoMemory>
     ensures { IfOk result (λ t. Tells t (enumerate_from 0 kids.now)) }
 {
     let mut gives = HashMap::new(alloc);
     let mut deletes = HashMap::new(alloc);
     for j in (0..kids.len()).rev() {
-        note_all(alloc, &mut gives, &kids[j].effects.add, j)?;
-        note_all(alloc, &mut deletes, &kids[j].effects.del, j)?;
+        note_all(alloc, &mut gives, kids[j].add(), j)?;
+        note_all(alloc, &mut deletes, kids[j].del(), j)?;
     }
     Ok(Touches { gives, deletes })
 }

@@ -5,31 +5,25 @@ ghost use Rattle.bd_links.specs.Sound.{child_of, effects_of, are_below};
 
 use crate::blocks::effects_of_block;
 use crate::parts::{Child, Effects};
-use crate::sets::action_effects;
 use bd_base::NoMemory;
 use bd_task::Task;
 use bd_tree::Node;
 use std::alloc::Global;
 
 /// A node's id and effects.
-pub fn as_child(alloc: Global, task: &Task, node: &Node) -> Result<Child, NoMemory>
+pub fn as_child<'a>(alloc: Global, task: &'a Task, node: &Node) -> Result<Child<'a>, NoMemory>
     requires { IsTrue (are_below (length task.now.actions) node.now) }
     ensures { IfOk result (λ c. c ≡ child_of task.now.actions node.now) }
 {
     match node {
-        Node::Step { id, action } => Ok(Child {
-            id: *id,
-            effects: action_effects(alloc, task.action(*action))?,
-        }),
+        Node::Step { id, action } => Ok(Child::of_step(*id, task.action(*action))),
         Node::Block { id, kids, order } => {
             let mut children = Vec::new(alloc);
             for kid in kids.as_slice() {
                 children.push(as_child(alloc, task, kid)?)?;
             }
-            Ok(Child {
-                id: *id,
-                effects: effects_of_block(alloc, order, &children)?,
-            })
+            let effects = effects_of_block(alloc, order, &children)?;
+            Ok(Child::of_effects(*id, effects))
         }
     }
 }
@@ -39,8 +33,7 @@ pub fn effects(alloc: Global, task: &Task, node: &Node) -> Result<Effects, NoMem
     requires { IsTrue (are_below (length task.now.actions) node.now) }
     ensures { IfOk result (λ e. e ≡ effects_of task.now.actions node.now) }
 {
-    let child = as_child(alloc, task, node)?;
-    Ok(child.effects)
+    as_child(alloc, task, node)?.into_effects(alloc)
 }
 
 /// Whether each action of the node is one of the task's.

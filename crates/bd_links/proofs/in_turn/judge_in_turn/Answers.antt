@@ -3,7 +3,7 @@ use Rattle.std.specs.List.{find}
 use Rattle.std.specs.Option.{option_or}
 use Rattle.bd_base.specs.Facts.{has}
 use Rattle.bd_links.specs.declared.parts.Effects.{Effects}
-use Rattle.bd_links.specs.declared.parts.Child.{Child}
+use Rattle.bd_links.specs.Child.{Child}
 use Rattle.bd_links.specs.Faults.{inside}
 use Rattle.bd_links.specs.InTurn.{turn, turns, turns_fault}
 use Rattle.bd_links.proofs.Steps.{drop-at}
@@ -23,5 +23,5 @@ loop-kid-preserved c =
     let inv = c.loop-kid.invariant in
     record {
       effects = turn_more c.args.block _ _ _ _ _ c.loop-kid-test.true c.kid-item.is c.in_ok-take_turn-in-None.ensures ∙ inv.effects;
-      fault = fault_more c.args.block _ _ _ _ _ c.loop-kid-test.true c.kid-item.is c.in_ok-take_turn-in-None.ensures (sym c.in-None.ensures) ∙ inv.fault;
+      fault = fault_more c.args.block _ _ _ _ _ c.loop-kid-test.true c.kid-item.is c.in_ok-take_turn-in-None.ensures (ap (find (has c.loop-kid.e.del)) (sym c.need.ensures) ∙ sym c.in-None.ensures) ∙ inv.fault;
     }
