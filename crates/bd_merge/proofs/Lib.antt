@@ -4,7 +4,9 @@ pub mod KeptLemmas
 pub mod MergeLemmas
 pub mod PartLemmas
 pub mod RowLemmas
+pub mod RunLemmas
 pub mod StandLemmas
+pub mod TouchLemmas
 pub mod TurnLemmas
 pub mod WalkLemmas
 pub mod WholeLemmas

@@ -20,48 +20,6 @@ and_true : (b : Bool) → b ≡ (b && true)
 and_true true = refl
 and_true false = refl
 
--- no position is above a and below the next one
-pub row_start : (passes : ℕ → Bool) (a : ℕ) (row : List ℕ) → row ≡ [] → (q : ℕ) → has row q ≡ (ltb a q && (ltb q (a + 1) && passes q))
-row_start passes a row e q = ap (λ (z : List ℕ). has z q) e ∙ sym (elim (cases_lt a q) [
-  | inl up ↦ ap (λ z. ltb a q && (z && passes q)) (le-ltb q (a + 1) (omega arith)) ∙ and_false (ltb a q)
-  | inr le ↦ ap (λ z. z && (ltb q (a + 1) && passes q)) (le-ltb a q le)
-])
-
--- the positions above a and below b that pass, with one more
-module _ (passes : ℕ → Bool) (a b : ℕ) (lt : a < b) where
-  abbrev pub HasBelow : List ℕ → ℕ → Type 0
-  HasBelow row b = (q : ℕ) → has row q ≡ (ltb a q && (ltb q b && passes q))
-
-  below_next : (q : ℕ) → (b ≡ q → ⊥) → ltb q b ≡ ltb q (b + 1)
-  below_next q ne = elim (cases_lt q b) [
-    | inl less ↦ lt-ltb q b less ∙ sym (lt-ltb q (b + 1) (omega arith))
-    | inr le ↦ le-ltb q b le ∙ sym (le-ltb q (b + 1) (omega (arith, ne)))
-  ]
-
-  pub row_put : (row new : List ℕ) → HasBelow row b → passes b ≡ true → new ≡ insert_fact b row → HasBelow new (b + 1)
-  row_put row new so_far pass e q =
-      ap (λ (z : List ℕ). has z q) e
-      ∙ has-insert_fact b row q
-      ∙ elim (cases_eq b q) [
-        | inl same ↦
-            ap (λ z. z || has row q) (eq-eqb b q same)
-            ∙ sym (ap (λ z. z && (ltb q (b + 1) && passes q)) (lt-ltb a q (omega (arith, same))) ∙ ap (λ z. z && passes q) (lt-ltb q (b + 1) (omega (arith, same))) ∙ ap passes (sym same) ∙ pass)
-        | inr ne ↦ ap (λ z. z || has row q) (ne_eqb b q ne) ∙ so_far q ∙ ap (λ z. ltb a q && (z && passes q)) (below_next q ne)
-      ]
-
-  pub row_passed : (row new : List ℕ) → HasBelow row b → passes b ≡ false → new ≡ row → HasBelow new (b + 1)
-  row_passed row new so_far pass e q =
-      ap (λ (z : List ℕ). has z q) e
-      ∙ so_far q
-      ∙ elim (cases_eq b q) [
-        | inl same ↦
-            let none : passes q ≡ false = ap passes (sym same) ∙ pass in
-            ap (λ z. ltb a q && (ltb q b && z)) none ∙ ap (λ z. ltb a q && z) (and_false (ltb q b) ∙ sym (and_false (ltb q (b + 1)))) ∙ ap (λ z. ltb a q && (ltb q (b + 1) && z)) (sym none)
-        | inr ne ↦ ap (λ z. ltb a q && (z && passes q)) (below_next q ne)
-      ]
-
--- ---- rows of an order
-
 below_upto : (x a k : ℕ) → x < a → IsBelowAll x (upto a k)
 below_upto x a zero lt = tt
 below_upto x a (suc k) lt = (lt, below_upto x (a + 1) k (omega arith))

@@ -1,25 +1,26 @@
-ghost use Rattle.std.specs.Prelude.{◌≡◌, ℕ, ◌+◌, ◌<◌, ◌≤◌, ◌^◌, ◌&&◌, ◌++◌, nat_lt, length, map, IfOk, IsTrue, OnOk};
+ghost use Rattle.std.specs.Prelude.{◌≡◌, ℕ, ◌+◌, ◌<◌, ◌≤◌, ◌^◌, ◌&&◌, ◌||◌, ◌++◌, nat_lt, length, map, IfOk, IsTrue, OnOk};
 ghost use Rattle.std.specs.List.{enumerate_from};
 ghost use Rattle.bd_base.specs.Facts.{has};
 ghost use Rattle.bd_base.specs.Pairs.{total_order};
 ghost use Rattle.bd_tree.specs.Chain.{steps_from};
 ghost use Rattle.bd_tree.specs.Tree.{id_of, ids_of, greatest, nodes_of, steps_of, total};
 ghost use Rattle.bd_merge.specs.Stands.{Stands};
-ghost use Rattle.bd_merge.specs.FrontEnd.{IsFrontEnd};
-ghost use Rattle.bd_merge.specs.Merged.{goes_first, is_front, is_back, fronts, backs, is_ordered, is_kept, merged_order, merged_block, merged, Exchanges};
+ghost use Rattle.bd_merge.specs.FrontEnd.{IsFrontEnd, IsTouched, TellsSides, is_related, is_told_first};
+ghost use Rattle.bd_merge.specs.RowOf.{IsRowAfter, is_in_run, is_ordered_by};
+ghost use Rattle.bd_merge.specs.Merged.{goes_first, is_front, is_back, fronts, backs, is_kept, merged_order, merged_block, merged, Exchanges};
 
 use crate::{Found, Lean, Window};
-use bd_base::{ActionId, FromItems, Items, NoMemory, NodeId, OwnedRow, PairList};
-use bd_tree::{Members, Node, Tree, comes_before, is_after_member, is_before_member, span_of};
+use bd_base::{ActionId, FromItems, Items, NoMemory, NodeId, OwnedRow, PairList, Row};
+use bd_tree::{Members, Node, Tree, span_of};
 use std::alloc::Global;
 
 /// What stands at a position of a merged block: a kid in front of the new steps, a new step, or a kid behind
 /// them. A kid is told by its old position.
 #[derive(Clone, Copy, Debug, PartialEq, Eq)]
 pub enum Place {
-    Front(usize),
+    Front(u32),
     New,
-    Back(usize),
+    Back(u32),
 }
 
 /// The tree in which the window's block has steps of the list, with ids from `next` on, in the place of the carried
@@ -59,27 +60,92 @@ fn front_end(window: &Window, order: &PairList, kids: &[Node]) -> Option<usize>
     }
 }
 
-// Whether the kid at the position, if it is outside the window, goes in front of it, told by the order.
-fn is_ordered_first(window: &Window, order: &PairList, kids: &[Node], at: usize) -> bool
-    ensures { result ≡ goes_first window.now.lean order.now (map id_of window.now.kids) (enumerate_from 0 kids.now) at }
+// Adds the positions that the order puts after a position, or for `Late` before it.
+fn join_related(
+    alloc: Global,
+    lean: Lean,
+    order: &PairList,
+    at: u32,
+    row: &mut OwnedRow,
+) -> Result<(), NoMemory>
+    ensures { OnOk result ((q : ℕ) → has row.new q ≡ (is_related lean order.now at q || has row.old q)) }
 {
-    let members = Members::of_nodes(window.kids.as_slice());
-    match window.lean {
-        Lean::Early => !is_after_member(order, kids, &members, at),
-        Lean::Late => is_before_member(order, kids, &members, at),
+    match lean {
+        Lean::Early => row.join(&order.after(at)),
+        Lean::Late => {
+            let before = order.before(alloc, at)?;
+            row.join(&before.row())
+        }
     }
 }
 
-// The same, told by the end of the kids in front where it is known.
-fn is_first(window: &Window, order: &PairList, kids: &[Node], end: Option<usize>, at: usize) -> bool
+// The positions to which some carried kid is related.
+fn touched_of(
+    alloc: Global,
+    window: &Window,
+    order: &PairList,
+    kids: &[Node],
+) -> Result<OwnedRow, NoMemory>
+    requires { length kids.now < 2 ^ 32 }
+    ensures { IfOk result (λ row. IsTouched window.now order.now kids.now row) }
+{
+    let mut row = OwnedRow::new(alloc);
+    for at in 0..kids.len() {
+        if is_carried(window, &kids[at]) {
+            join_related(alloc, window.lean, order, at as u32, &mut row)?;
+        }
+    }
+    Ok(row)
+}
+
+// How it is told whether a kid outside the window goes in front of it: by an end where each kid is before all later ones,
+// and else by the positions to which some carried kid is related.
+#[derive(Drop)]
+enum Sides {
+    Below(usize),
+    Touched(OwnedRow),
+}
+
+fn sides_of(
+    alloc: Global,
+    window: &Window,
+    order: &PairList,
+    kids: &[Node],
+    end: Option<usize>,
+) -> Result<Sides, NoMemory>
+    requires few { length kids.now < 2 ^ 32 }
     requires end { IsFrontEnd window.now order.now kids.now end }
+    ensures { IfOk result (λ sides. TellsSides window.now order.now kids.now sides) }
+{
+    match end {
+        Some(end) => Ok(Sides::Below(end)),
+        None => {
+            let row = touched_of(alloc, window, order, kids)?;
+            Ok(Sides::Touched(row))
+        }
+    }
+}
+
+// Whether a kid at the position goes in front, as the sides tell it.
+fn is_told_first(lean: Lean, sides: &Sides, at: u32) -> bool
+    ensures { result ≡ is_told_first lean sides.now at }
+{
+    match sides {
+        Sides::Below(end) => (at as usize) < *end,
+        Sides::Touched(row) => match lean {
+            Lean::Early => !row.row().has(at),
+            Lean::Late => row.row().has(at),
+        },
+    }
+}
+
+// Whether the kid at the position, if it is outside the window, goes in front of it.
+fn is_first(window: &Window, order: &PairList, kids: &[Node], sides: &Sides, at: u32) -> bool
+    requires sides { TellsSides window.now order.now kids.now sides.now }
     requires within { at < length kids.now }
     ensures { result ≡ goes_first window.now.lean order.now (map id_of window.now.kids) (enumerate_from 0 kids.now) at }
 {
-    match end {
-        Some(end) => at < end,
-        None => is_ordered_first(window, order, kids, at),
-    }
+    is_told_first(window.lean, sides, at)
 }
 
 fn is_carried(window: &Window, kid: &Node) -> bool
@@ -94,17 +160,18 @@ fn put_fronts(
     window: &Window,
     order: &PairList,
     kids: &[Node],
-    end: Option<usize>,
+    sides: &Sides,
     copies: &mut Vec<Node>,
     places: &mut Vec<Place>,
 ) -> Result<(), NoMemory>
-    requires { IsFrontEnd window.now order.now kids.now end }
+    requires sides { TellsSides window.now order.now kids.now sides.now }
+    requires few { length kids.now < 2 ^ 32 }
     ensures kids { OnOk result (copies.new.items ≡ copies.old.items ++ map (λ k. k.1) (fronts window.now order.now (enumerate_from 0 kids.now))) }
     ensures places { OnOk result (places.new.items ≡ places.old.items ++ map (λ k. Place.Front k.0) (fronts window.now order.now (enumerate_from 0 kids.now))) }
 {
-    let mut at = 0;
+    let mut at = 0u32;
     for kid in kids {
-        if !is_carried(window, kid) && is_first(window, order, kids, end, at) {
+        if !is_carried(window, kid) && is_first(window, order, kids, sides, at) {
             copies.push(kid.try_copy(alloc)?)?;
             places.push(Place::Front(at))?;
         }
@@ -119,17 +186,18 @@ fn put_backs(
     window: &Window,
     order: &PairList,
     kids: &[Node],
-    end: Option<usize>,
+    sides: &Sides,
     copies: &mut Vec<Node>,
     places: &mut Vec<Place>,
 ) -> Result<(), NoMemory>
-    requires { IsFrontEnd window.now order.now kids.now end }
+    requires sides { TellsSides window.now order.now kids.now sides.now }
+    requires few { length kids.now < 2 ^ 32 }
     ensures kids { OnOk result (copies.new.items ≡ copies.old.items ++ map (λ k. k.1) (backs window.now order.now (enumerate_from 0 kids.now))) }
     ensures places { OnOk result (places.new.items ≡ places.old.items ++ map (λ k. Place.Back k.0) (backs window.now order.now (enumerate_from 0 kids.now))) }
 {
-    let mut at = 0;
+    let mut at = 0u32;
     for kid in kids {
-        if !is_carried(window, kid) && !is_first(window, order, kids, end, at) {
+        if !is_carried(window, kid) && !is_first(window, order, kids, sides, at) {
             copies.push(kid.try_copy(alloc)?)?;
             places.push(Place::Back(at))?;
         }
@@ -161,50 +229,66 @@ fn put_steps(
     Ok(())
 }
 
-// Whether what stands earlier in the new listing is before what stands later.
-fn is_before_later(order: &PairList, first: Place, second: Place) -> bool
-    ensures { result ≡ is_ordered order.now first second }
+// The old positions that a kid is before; of a new step any row will do.
+fn row_after(order: &PairList, first: Place) -> Row<'_>
+    ensures { IsRowAfter order.now first result }
 {
     match first {
-        Place::Front(i) => match second {
-            Place::Front(j) => comes_before(order, i, j),
+        Place::Front(i) => order.after(i),
+        Place::Back(i) => order.after(i),
+        Place::New => order.after(0),
+    }
+}
+
+// Whether what stands earlier in the new listing is before what stands later, told by the row of the earlier.
+fn is_before_later(after: &Row<'_>, first: Place, second: Place) -> bool
+    ensures { result ≡ is_ordered_by after.now first second }
+{
+    match first {
+        Place::Front(_) => match second {
+            Place::Front(j) => after.has(j),
             _ => true,
         },
         Place::New => match second {
             Place::Front(_) => false,
             _ => true,
         },
-        Place::Back(i) => match second {
-            Place::Back(j) => comes_before(order, i, j),
+        Place::Back(_) => match second {
+            Place::Back(j) => after.has(j),
             _ => false,
         },
     }
 }
 
-fn is_kept_pair(order: &PairList, places: &[Place], pair: (u32, u32)) -> bool
-    ensures { result ≡ is_kept order.now places.now pair }
+// Adds the positions from one on and below another.
+fn put_run(row: &mut OwnedRow, from: u32, to: u32) -> Result<(), NoMemory>
+    requires { from ≤ to }
+    ensures { OnOk result ((q : ℕ) → has row.new q ≡ (has row.old q || is_in_run from to q)) }
 {
-    match places.get(pair.0 as usize) {
-        None => false,
-        Some(first) => match places.get(pair.1 as usize) {
-            None => false,
-            Some(second) => is_before_later(order, *first, *second),
-        },
+    if from < to {
+        row.put_run(from, to)?;
     }
+    Ok(())
 }
 
-// The later positions that what stands at a position is before.
+// The later positions that what stands at a position is before. They are put a run at a time.
 fn row_of(alloc: Global, order: &PairList, places: &[Place], a: u32) -> Result<OwnedRow, NoMemory>
     requires few { length places.now < 2 ^ 32 }
     requires within { a < length places.now }
     ensures { IfOk result (λ row. (q : ℕ) → has row q ≡ (nat_lt a q && is_kept order.now places.now (a, q))) }
 {
+    let count = places.len() as u32;
+    let first = places[a as usize];
+    let after = row_after(order, first);
     let mut row = OwnedRow::new(alloc);
-    for b in a + 1..places.len() as u32 {
-        if is_kept_pair(order, places, (a, b)) {
-            row.put(b)?;
+    let mut from = a + 1;
+    for b in a + 1..count {
+        if !is_before_later(&after, first, places[b as usize]) {
+            put_run(&mut row, from, b)?;
+            from = b + 1;
         }
     }
+    put_run(&mut row, from, count)?;
     Ok(row)
 }
 
@@ -247,9 +331,10 @@ fn new_block(
     let mut copies = Vec::new(alloc);
     let mut places = Vec::new(alloc);
     let end = front_end(window, order, kids);
-    put_fronts(alloc, window, order, kids, end, &mut copies, &mut places)?;
+    let sides = sides_of(alloc, window, order, kids, end)?;
+    put_fronts(alloc, window, order, kids, &sides, &mut copies, &mut places)?;
     put_steps(list, next, &mut copies, &mut places)?;
-    put_backs(alloc, window, order, kids, end, &mut copies, &mut places)?;
+    put_backs(alloc, window, order, kids, &sides, &mut copies, &mut places)?;
     let order = new_order(alloc, order, &places, end.is_some())?;
     Ok(Node::Block {
         id: window.block,
