@@ -8,10 +8,10 @@ use Rattle.bd_links.specs.declared.parts.Fault.{Fault}
 use Rattle.bd_links.specs.Sound.{IsSound, first_fault, are_below}
 use Rattle.plan_core.specs.Core.{CoreView, state_of, accepted, due_after}
 use Rattle.plan_core.specs.Law.{HasRoom}
-use Rattle.plan_core.specs.Replies.{IsOpen, IsClosed, IsAcceptable, IsApplicable, IsGain, IsMade, IsShallow, MayTighten, Refuses, RefusesTighten, TestsTree}
+use Rattle.plan_core.specs.Replies.{IsClosed, IsAcceptable, IsApplicable, IsGain, IsMade, IsShallow, MayTighten, Refuses, RefusesTighten, TestsTree}
 use Rattle.plan_core.specs.declared.offer.Offer.{Offer}
 use Rattle.plan_core.specs.declared.offer.Offer.TheVariants.{Replace, Tighten, Rebuild}
-use Rattle.plan_core.specs.declared.refusal.Refusal.TheVariants.{Closed, TooDeep, NoGain, Unlinked, NoMemory}
+use Rattle.plan_core.specs.declared.refusal.Refusal.TheVariants.{Closed, TooDeep, NoGain, Unlinked}
 use Rattle.plan_core.specs.declared.refusal.Refusal.{Refusal}
 use Rattle.plan_core.proofs.TightenLemmas.{can_tighten}
 use Rattle.plan_core.proofs.CoreLemmas.{replace_leaves_room, rebuild_leaves_room, rebuilt_cost, tighten_leaves_room, tightened_cost, tightened_small, tightened_in_range, merged_cost, next_small, list_short, few_nodes}

@@ -3,7 +3,7 @@ use Rattle.std.proofs.Common.{◌≡◌, ℕ, zero, suc, ◌+◌, ◌<◌, ◌�
 use Rattle.bd_task.specs.TaskView.{TaskView}
 use Rattle.bd_task.specs.Valid.{cost_of}
 use Rattle.bd_tree.specs.declared.node.Node.{Node}
-use Rattle.bd_tree.specs.Tree.{depth_of, steps_of, nodes_of, listed_of}
+use Rattle.bd_tree.specs.Tree.{depth_of, steps_of, nodes_of, ids_of, greatest, listed_of}
 use Rattle.bd_links.specs.Sound.{IsSound, are_below}
 use Rattle.bd_links.proofs.There.{runs_always}
 use Rattle.plan_core.specs.Core.{CoreView, State, opened, state_of, opening, applied, tree_after, new_ids, accepted, replay, Begins, is_replacement, due_after}
@@ -12,6 +12,7 @@ use Rattle.plan_core.specs.Replies.{IsAcceptable, IsApplicable, Replies}
 use Rattle.plan_core.specs.declared.offer.Offer.{Offer}
 use Rattle.plan_core.specs.declared.refusal.Refusal.{Refusal}
 use Rattle.plan_core.proofs.AcceptLemmas.{room_after, sound_after, cost_after, applicable, due_more, count_more}
+use Rattle.plan_core.proofs.CoreLemmas.{few_nodes}
 
 -- the core after a list of accepted offers
 abbrev pub accepted_all : List Offer → CoreView → CoreView
@@ -105,37 +106,46 @@ falls_from (offer ∷ xs) core (suc k) room legal = falls_from xs (accepted offe
 pub cost_falls : (core : CoreView) → IsCore core → (place : ℕ) → cost_at core (place + 1) ≤ cost_at core place
 cost_falls core is place = rw add-one (falls_from core.history (opens core) place is.starts is.legal)
 
--- at each place the tree is sound and within the limits, and its actions are the task's
-record IsFit (task : TaskView) (tree : Node) : Type 0 where
+-- the next id never falls
+next_grows : (xs : List Offer) (state : State) → state.next ≤ (replay state xs).next
+next_grows [] state = omega arith
+next_grows (offer ∷ xs) state = omega (arith, next_grows xs (applied offer state))
+
+-- at each place the tree is sound and within the limits, its actions are the task's, and its ids are below a number
+record IsFit (task : TaskView) (tree : Node) (next : ℕ) : Type 0 where
   sound : IsSound task tree
   in_range : are_below (length task.actions) tree ≡ true
   short : steps_of tree ≤ 4_096
   shallow : depth_of tree ≤ 64
   few : nodes_of tree < 2 ^ 32
+  fresh : greatest (ids_of tree) < next
 
-fit_now : (core : CoreView) → HasRoom core → IsSound core.task core.tree → IsFit core.task core.tree
-fit_now core room sound = record {
+fit_now : (core : CoreView) (next : ℕ) → core.next ≤ next → HasRoom core → IsSound core.task core.tree → IsFit core.task core.tree next
+fit_now core next le room sound = record {
   sound = sound;
   in_range = room.in_range;
   short = room.short;
   shallow = room.shallow;
   few = omega (arith, room.few, room.short, room.entries);
+  fresh = omega (arith, room.fresh, le);
 }
 
-fit_from : (xs : List Offer) (core : CoreView) (k : ℕ) → HasRoom core → IsSound core.task core.tree → IsLegalFrom core xs → IsFit core.task (replay (state_of core) (take k xs)).tree
-fit_from [] core zero room sound legal = fit_now core room sound
-fit_from [] core (suc k) room sound legal = fit_now core room sound
-fit_from (x ∷ xs) core zero room sound legal = fit_now core room sound
+fit_from : (xs : List Offer) (core : CoreView) (k : ℕ) → HasRoom core → IsSound core.task core.tree → IsLegalFrom core xs →
+    IsFit core.task (replay (state_of core) (take k xs)).tree (replay (state_of core) xs).next
+fit_from [] core zero room sound legal = fit_now core core.next (omega arith) room sound
+fit_from [] core (suc k) room sound legal = fit_now core core.next (omega arith) room sound
+fit_from (x ∷ xs) core zero room sound legal = fit_now core (replay (state_of core) (x ∷ xs)).next (next_grows (x ∷ xs) (state_of core)) room sound
 fit_from (offer ∷ xs) core (suc k) room sound legal =
     fit_from xs (accepted offer core) k (room_after core offer room legal.0.0) (sound_after core offer legal.0.0) legal.1
 
-fit_at : (core : CoreView) → IsCore core → (place : ℕ) → IsFit core.task (tree_at core place)
-fit_at core is place = fit_from core.history (opens core) place is.starts is.opens is.legal
+fit_at : (core : CoreView) → IsCore core → (place : ℕ) → IsFit core.task (tree_at core place) core.next
+fit_at core is place =
+    subst (λ (s : State). IsFit core.task (tree_at core place) s.next) is.replays (fit_from core.history (opens core) place is.starts is.opens is.legal)
 
 -- the tree at each place may be put as a text
 pub printable_at : (core : CoreView) → IsCore core → (place : ℕ) → IsPrintable core.task (tree_at core place)
 printable_at core is place =
-    let fit : IsFit core.task (tree_at core place) = fit_at core is place in
+    let fit : IsFit core.task (tree_at core place) core.next = fit_at core is place in
     record { in_range = fit.in_range; few = fit.few }
 
 -- what holds of every core
@@ -147,10 +157,14 @@ lawful_core core is = record {
   runs = runs_always core.task core.tree is.room.in_range is.sound;
   legal = is.legal;
   replays = is.replays;
-  short_at = λ place. let fit : IsFit core.task (tree_at core place) = fit_at core is place in fit.short;
-  shallow_at = λ place. let fit : IsFit core.task (tree_at core place) = fit_at core is place in fit.shallow;
-  sound_at = λ place. let fit : IsFit core.task (tree_at core place) = fit_at core is place in fit.sound;
-  runs_at = λ place. let fit : IsFit core.task (tree_at core place) = fit_at core is place in runs_always core.task (tree_at core place) fit.in_range fit.sound;
+  short_at = λ place. let fit : IsFit core.task (tree_at core place) core.next = fit_at core is place in fit.short;
+  shallow_at = λ place. let fit : IsFit core.task (tree_at core place) core.next = fit_at core is place in fit.shallow;
+  sound_at = λ place. let fit : IsFit core.task (tree_at core place) core.next = fit_at core is place in fit.sound;
+  runs_at = λ place. let fit : IsFit core.task (tree_at core place) core.next = fit_at core is place in runs_always core.task (tree_at core place) fit.in_range fit.sound;
+  printable = record { in_range = is.room.in_range; few = few_nodes core is.room };
+  printable_at = printable_at core is;
+  fresh = is.room.fresh;
+  fresh_at = λ place. let fit : IsFit core.task (tree_at core place) core.next = fit_at core is place in fit.fresh;
   falls = cost_falls core is;
 }
 

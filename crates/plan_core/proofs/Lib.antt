@@ -3,6 +3,7 @@ pub mod CoreLemmas
 pub mod DepthLemmas
 pub mod LawLemmas
 pub mod MeasureLemmas
+pub mod NewLemmas
 pub mod RangeLemmas
 pub mod RebuildLemmas
 pub mod SideLemmas

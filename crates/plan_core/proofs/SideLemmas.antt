@@ -1,11 +1,11 @@
 -- Where two sides can be grouped and then unordered.
 use Rattle.std.proofs.Common.{◌≡◌, ◌≢◌, ℕ, ◌+◌, ◌<◌, ◌≤◌, Bool, true, false, not, ◌&&◌, ◌||◌, eqb, cond, List, [], ◌∷◌, ◌++◌, length, map, Option, Some, None, IfNone, IfSome, refl, sym, ap, ◌∙◌, subst, inl, inr, arith}
 use Rattle.std.specs.Option.{is_some, option_map_or}
-use Rattle.std.proofs.lemmas.Bool.{and_parts, and_from, and_right, or_cases, or_left, or_right, eq-eqb, eqb-true, ltb-true, not-true, cases_Bool, both_ways, false_from_ne_true}
+use Rattle.std.proofs.lemmas.Bool.{and_parts, and_from, and_right, or_cases, or_left, or_right, eq-eqb, eqb-true, ltb-true, cases_Bool, both_ways, false_from_ne_true}
 use Rattle.bd_base.specs.Facts.{has, is_subset}
 use Rattle.bd_links.proofs.Members.{subset_from_has, has_from_subset}
 use Rattle.bd_tree.specs.declared.node.Node.{Node, Step, Block}
-use Rattle.bd_tree.specs.declared.node.Node.TheViews.{out-Node, outs-Step, outs-Block}
+use Rattle.bd_tree.specs.declared.node.Node.TheViews.{outs-Step, outs-Block}
 use Rattle.bd_tree.specs.Tree.{id_of, ids_of, greatest, joined, find_in, first_some}
 use Rattle.bd_tree.specs.WellFormed.{are_distinct}
 use Rattle.bd_tree.proofs.NodeLemmas.{Each, by_node, ids_of-Block}

@@ -1,20 +1,18 @@
 -- A tightened tree: it is well formed, and what adds up is as it was.
-use Rattle.std.proofs.Common.{◌≡◌, ℕ, ◌+◌, ◌<◌, ◌≤◌, Bool, true, false, not, ◌&&◌, List, [], ◌∷◌, map, cond, refl, sym, ap, ◌∙◌, subst, arith}
-use Rattle.std.specs.List.{list_all}
+use Rattle.std.proofs.Common.{◌≡◌, ℕ, ◌+◌, ◌<◌, ◌≤◌, true, false, ◌&&◌, List, [], ◌∷◌, ap, ◌∙◌, arith}
 use Rattle.std.proofs.lemmas.Bool.{and_parts, not-true}
-use Rattle.bd_tree.specs.declared.node.Node.{Node, Step, Block}
-use Rattle.bd_tree.specs.Tree.{ids_of, greatest, nodes_of, total}
+use Rattle.bd_tree.specs.declared.node.Node.{Node}
+use Rattle.bd_tree.specs.Tree.{ids_of, greatest, nodes_of}
 use Rattle.bd_tree.specs.WellFormed.{IsWellFormed}
 use Rattle.bd_shape.specs.Kids.{convex_at}
 use Rattle.bd_shape.specs.Hull.{between_at}
-use Rattle.bd_shape.specs.Grouped.{CanGroup, HasSide, count_taken, grouped, side_id}
+use Rattle.bd_shape.specs.Grouped.{CanGroup, count_taken, grouped, side_id}
 use Rattle.bd_shape.specs.Measures.{AddUpAlike}
-use Rattle.bd_shape.specs.Unordered.{CanUnorder}
 use Rattle.bd_shape.specs.Tightened.{both_grouped, both_taken, right_fresh, tightened}
 use Rattle.plan_core.specs.Sides.{CanTighten, are_sides, are_two, has_sides}
 use Rattle.bd_shape.proofs.UnorderLemmas.{unordered_measures, unordered_nodes, unordered_ids, unordered_well_formed}
 use Rattle.bd_shape.proofs.WholeLemmas as whole
-use Rattle.plan_core.proofs.SideLemmas.{IsTwo, two_from, can_left, can_right, can_unorder}
+use Rattle.plan_core.proofs.SideLemmas.{two_from, can_left, can_right, can_unorder}
 
 -- a tree stays well formed where kids are grouped
 grouped_well_formed : (root : Node) (block : ℕ) (ids : List ℕ) (fresh : ℕ) → IsWellFormed root → CanGroup root block ids → greatest (ids_of root) < fresh → IsWellFormed (grouped root block ids fresh)

@@ -104,3 +104,8 @@ abbrev pub Begins : TaskView → Node → ℕ → Result CoreView BeginErr → T
 Begins task start stop (Ok core) = (core ≡ opening task start stop) × IsSound task start
 Begins task start stop (Err (Unsound fault)) = first_fault task start ≡ Some fault
 Begins task start stop (Err NoMemory) = Unit {0}
+
+abbrev pub IsOkOrOutOfMemory : {A : Type 0} → Result A BeginErr → Type 0
+IsOkOrOutOfMemory (Ok core) = Unit {0}
+IsOkOrOutOfMemory (Err (Unsound fault)) = ⊥
+IsOkOrOutOfMemory (Err NoMemory) = Unit {0}

@@ -1,5 +1,5 @@
 -- What every core keeps, and what a list of offers leads to.
-use Rattle.std.specs.Prelude.{◌≡◌, ℕ, ◌+◌, ◌*◌, ◌<◌, ◌≤◌, ◌^◌, Bool, true, List, [], ◌∷◌, length, take, count_by, Result, Ok, Err}
+use Rattle.std.specs.Prelude.{◌≡◌, ℕ, ◌+◌, ◌*◌, ◌<◌, ◌≤◌, ◌^◌, nat_lt, nat_le, Bool, true, ◌&&◌, List, [], ◌∷◌, length, take, count_by, Result, Ok, Err}
 use Rattle.bd_task.specs.TaskView.{TaskView}
 use Rattle.bd_task.specs.Valid.{cost_of}
 use Rattle.bd_tree.specs.declared.node.Node.{Node}
@@ -63,6 +63,12 @@ pub record MayBegin (task : TaskView) (start : Node) : Type 0 where
   pub few : nodes_of start < 2 ^ 24
   pub ids : greatest (ids_of start) < 2 ^ 32
 
+-- the same, but for what each tree keeps, as a test
+abbrev pub may_begin : TaskView → Node → Bool
+may_begin task start =
+    nat_lt (nodes_of start) (2 ^ 24) && nat_le (depth_of start) 64 && nat_le (steps_of start) 2_000 && nat_lt (greatest (ids_of start)) (2 ^ 32)
+    && are_below (length task.actions) start
+
 -- the core after a reply
 abbrev pub after_reply : CoreView → Offer → Result ℕ Refusal → CoreView
 after_reply core offer (Ok place) = accepted offer core
@@ -77,8 +83,13 @@ Leads core (step ∷ rest) last = Replies core step.0 step.1 × Leads (after_rep
 abbrev pub OpensOn : TaskView → Node → ℕ → CoreView → Type 0
 OpensOn task start stop core = (core.task ≡ task) × (core.start ≡ start) × (core.stop ≡ stop)
 
--- what holds after any offers: at each place the tree is sound and within the limits on steps and on depth, each
--- linearisation of it is valid, and the cost never rises
+-- what the texts of a tree ask: its actions are the task's, and it has fewer than 2^32 nodes
+pub record IsPrintable (task : TaskView) (tree : Node) : Type 0 where
+  pub in_range : are_below (length task.actions) tree ≡ true
+  pub few : nodes_of tree < 2 ^ 32
+
+-- what holds after any offers: at each place the tree is sound and within the limits on steps and on depth, its actions are
+-- the task's and its nodes few, its ids are below the next id, each linearisation of it is valid, and the cost never rises
 pub record IsLawful (core : CoreView) : Type 0 where
   pub short : steps_of core.tree ≤ 4_096
   pub shallow : depth_of core.tree ≤ 64
@@ -90,9 +101,8 @@ pub record IsLawful (core : CoreView) : Type 0 where
   pub shallow_at : (place : ℕ) → depth_of (tree_at core place) ≤ 64
   pub sound_at : (place : ℕ) → IsSound core.task (tree_at core place)
   pub runs_at : (place : ℕ) → RunsAlways core.task (tree_at core place)
+  pub printable : IsPrintable core.task core.tree
+  pub printable_at : (place : ℕ) → IsPrintable core.task (tree_at core place)
+  pub fresh : greatest (ids_of core.tree) < core.next
+  pub fresh_at : (place : ℕ) → greatest (ids_of (tree_at core place)) < core.next
   pub falls : (place : ℕ) → cost_at core (place + 1) ≤ cost_at core place
-
--- what the texts of a tree ask: its actions are the task's, and it has fewer than 2^32 nodes
-pub record IsPrintable (task : TaskView) (tree : Node) : Type 0 where
-  pub in_range : are_below (length task.actions) tree ≡ true
-  pub few : nodes_of tree < 2 ^ 32

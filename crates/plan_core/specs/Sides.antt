@@ -1,5 +1,5 @@
 -- The two sides of a tightening: kids of a block that are grouped on the left and on the right, and then unordered.
-use Rattle.std.specs.Prelude.{◌≡◌, ℕ, ◌<◌, Bool, true, false, not, ◌&&◌, nat_lt, List, ◌++◌, length}
+use Rattle.std.specs.Prelude.{ℕ, Bool, true, false, not, ◌&&◌, nat_lt, List, ◌++◌, length}
 use Rattle.std.specs.Option.{option_map_or}
 use Rattle.bd_base.specs.Facts.{is_subset}
 use Rattle.bd_tree.specs.declared.node.Node.{Node}

@@ -1,8 +1,8 @@
-ghost use Rattle.std.specs.Prelude.{◌≡◌, ◌+◌, ◌<◌, ◌≤◌, ◌^◌, length, count_by, take, IsTrue, IfErr, IfOk, OnOk, OnErr};
-ghost use Rattle.bd_links.specs.Sound.{are_below};
+ghost use Rattle.std.specs.Prelude.{◌≡◌, ◌↔◌, ◌+◌, ◌<◌, ◌≤◌, ◌^◌, nat_lt, length, count_by, take, IsTrue, IfErr, IfOk, OnOk, OnErr};
+ghost use Rattle.bd_links.specs.Sound.{IsSound, are_below};
 ghost use Rattle.bd_tree.specs.Tree.{depth_of, steps_of, nodes_of, ids_of, greatest};
-ghost use Rattle.plan_core.specs.Core.{Begins, accepted, tree_after, opened, replay, is_closed, is_due, is_rebuild, is_replacement, is_tightening};
-ghost use Rattle.plan_core.specs.Law.{IsCore, IsLawful, IsPrintable, tree_at};
+ghost use Rattle.plan_core.specs.Core.{Begins, IsOkOrOutOfMemory, accepted, tree_after, opened, replay, is_closed, is_due, is_rebuild, is_replacement, is_tightening};
+ghost use Rattle.plan_core.specs.Law.{IsCore, IsLawful, IsPrintable, MayBegin, may_begin, tree_at};
 ghost use Rattle.plan_core.specs.Replies.{IsApplicable, IsLent, Judges, Replies, TellsFact};
 ghost use Rattle.plan_core.specs.declared.judge.BeginErr.TheVariants.{NoMemory as OutOfMemory};
 
@@ -10,10 +10,10 @@ use crate::rebuild::rebuilt;
 use crate::sides::tightened;
 use crate::{Offer, Refusal};
 use bd_base::{NoMemory, NodeId};
-use bd_links::{Fault, check};
+use bd_links::{Fault, actions_fit, check};
 use bd_merge::merged;
 use bd_task::Task;
-use bd_tree::Tree;
+use bd_tree::{MAX_DEPTH, Tree};
 use std::alloc::Global;
 use std::marker::Model;
 
@@ -75,7 +75,8 @@ impl Core {
         requires few { nodes_of start < 2 ^ 24 }
         requires ids { greatest (ids_of start) < 2 ^ 32 }
         requires stops { (0 < stop) × (stop ≤ 1_000_000) }
-        ensures { Begins task start stop result }
+        ensures begins { Begins task start stop result }
+        ensures sound { IsSound task start → IsOkOrOutOfMemory result }
     {
         if let Some(fault) = check(alloc, &task, &start)? {
             return Err(BeginErr::Unsound(fault));
@@ -254,6 +255,26 @@ fn tree_after(alloc: Global, tree: &Tree, next: NodeId, offer: &Offer) -> Result
         }
         Offer::Rebuild { order } => rebuilt(alloc, tree, order),
     }
+}
+
+// Whether the tree has fewer than 2^24 nodes.
+fn has_few(start: &Tree) -> bool
+    ensures { result ≡ nat_lt (nodes_of start.now) (2 ^ 24) }
+{
+    start.nodes() < 16_777_216
+}
+
+/// Whether a core may open on the task and the start tree: the tree's actions are the task's, it has at most 64 levels,
+/// 2,000 steps and 16,777,215 nodes, and no id above 4,294,967,295.
+pub fn may_begin(task: &Task, start: &Tree) -> bool
+    ensures told { result ≡ may_begin task.now start.now }
+    ensures exact { IsTrue result ↔ MayBegin task.now start.now }
+{
+    has_few(start)
+        && start.depth() <= MAX_DEPTH
+        && start.steps() <= 2_000
+        && start.top_id().0 < 4_294_967_296
+        && actions_fit(task, start.root())
 }
 
 /// How many of the offers are replacements.

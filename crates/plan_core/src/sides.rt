@@ -1,6 +1,5 @@
 // The two sides of a tightening: what is asked of them, and the trees in which they are grouped and unordered.
-ghost use Rattle.std.specs.Prelude.{◌≡◌, ◌<◌, ◌^◌, ◌++◌, false, true, IfOk, IfNone, IfSome};
-ghost use Rattle.bd_base.specs.Facts.{has};
+ghost use Rattle.std.specs.Prelude.{◌≡◌, ◌<◌, ◌^◌, [], false, true, IfOk, IfNone, IfSome};
 ghost use Rattle.bd_tree.specs.Tree.{ids_of, greatest};
 ghost use Rattle.bd_tree.specs.WellFormed.{are_distinct};
 ghost use Rattle.bd_shape.specs.Grouped.{count_taken, side_id};
@@ -8,12 +7,14 @@ ghost use Rattle.bd_shape.specs.Hull.{between_at};
 ghost use Rattle.bd_shape.specs.Kids.{convex_at};
 ghost use Rattle.bd_shape.specs.Tightened.{both_grouped, right_fresh, tightened};
 ghost use Rattle.bd_shape.specs.Unordered.{CanUnorder, unordered};
+ghost use Rattle.plan_core.specs.New.{are_new};
 ghost use Rattle.plan_core.specs.Sides.{CanTighten, are_sides, are_two, has_sides, is_block};
 
 use bd_base::{NoMemory, NodeId};
 use bd_shape::{are_members, group, has_between, unorder};
-use bd_tree::{Members, Node, Tree, is_convex};
+use bd_tree::{Node, Tree, is_convex};
 use std::alloc::Global;
+use std::collections::BTreeSet;
 
 fn is_block(node: &Node) -> bool
     ensures { result ≡ is_block node.now }
@@ -34,46 +35,36 @@ pub(crate) fn has_sides(tree: &Tree, block: NodeId, left: &[NodeId], right: &[No
     }
 }
 
-// Whether no id stands twice in the list.
-fn are_distinct(ids: &[NodeId]) -> bool
-    ensures { result ≡ are_distinct ids.now }
+// Whether each id is unlike all that were seen before it.
+fn are_new(alloc: Global, ids: &[NodeId]) -> Result<bool, NoMemory>
+    ensures { IfOk result (λ told. told ≡ are_new [] ids.now) }
 {
-    let mut rest = ids;
+    let mut seen = BTreeSet::new(alloc);
     for id in ids {
-        rest = &rest[1..];
-        if Members::of_ids(rest).has(*id) {
-            return false;
+        if !seen.insert(id.0)? {
+            return Ok(false);
         }
     }
-    true
+    Ok(true)
 }
 
-// Whether the id is in one of the two lists.
-fn either_has(first: &[NodeId], second: &[NodeId], id: NodeId) -> bool
-    ensures { result ≡ has (first.now ++ second.now) id }
+// Whether no id stands twice in the list.
+fn are_distinct(alloc: Global, ids: &[NodeId]) -> Result<bool, NoMemory>
+    ensures { IfOk result (λ told. told ≡ are_distinct ids.now) }
 {
-    Members::of_ids(first).has(id) || Members::of_ids(second).has(id)
-}
-
-// Whether no id stands twice in the two lists.
-fn are_unlike(left: &[NodeId], right: &[NodeId]) -> bool
-    ensures { result ≡ are_distinct (left.now ++ right.now) }
-{
-    let mut rest = left;
-    for id in left {
-        rest = &rest[1..];
-        if either_has(rest, right, *id) {
-            return false;
-        }
-    }
-    are_distinct(right)
+    are_new(alloc, ids)
 }
 
 // Whether neither side is empty, and no id stands twice in the two.
-fn are_two(left: &[NodeId], right: &[NodeId]) -> bool
-    ensures { result ≡ are_two left.now right.now }
+fn are_two(alloc: Global, left: &[NodeId], right: &[NodeId]) -> Result<bool, NoMemory>
+    ensures { IfOk result (λ told. told ≡ are_two left.now right.now) }
 {
-    !left.is_empty() && !right.is_empty() && are_unlike(left, right)
+    if left.is_empty() || right.is_empty() {
+        return Ok(false);
+    }
+    let mut both = Vec::from_slice(alloc, left)?;
+    both.extend_from_slice(right)?;
+    are_distinct(alloc, &both)
 }
 
 // Whether the kids of the block with these ids are convex.
@@ -140,7 +131,7 @@ pub(crate) fn grouped_sides(
     ensures some { IfOk result (λ told. IfSome told (λ t. are_sides tree.now block left.now right.now next ≡ true)) }
     ensures tree { IfOk result (λ told. IfSome told (λ t. t ≡ both_grouped tree.now block left.now right.now next)) }
 {
-    if !are_two(left, right) {
+    if !are_two(alloc, left, right)? {
         return Ok(None);
     }
     if !is_convex_at(tree, block, left) {

@@ -1,310 +1,167 @@
-ghost use Rattle.std.specs.Prelude.{◌≤◌, ◌<◌, ◌^◌, length, IfOk};
+// Values worked by hand, each call that takes memory once with ample memory, and what no text can say: a number that is no
+// action's, and the parts of a core.
+ghost use Rattle.std.specs.Prelude.{◌+◌, ◌<◌, ◌^◌, length, IfOk};
+ghost use Rattle.plan_core.specs.Replies.{IsLent};
 
-use crate::cores::{
-    AB, AC, BA, BC, FLIP, GET_X, GET_Y, NONE, PIP, accepted, cost, has_entries, has_list, has_top,
-    is_at, is_like, is_listed, is_unsound, lengthened, long_way, pips, refused, replace, shortened,
-    shorter, tells_of, trip,
+use crate::{BeginErr, Core, Offer, Refusal, may_begin, rebuilds, replacements, tightenings};
+use bd_base::{
+    ActList, ActionId, FactId, FactSet, FromItems, IdList, Items, NoMemory, NodeId, PairList,
 };
-use crate::{Core, Refusal, offers_judged, replacements};
-use bd_base::{ActionId, FactId, NoMemory, NodeId};
 use bd_links::Fault;
-use bd_merge::Lean;
+use bd_merge::{Lean, Window};
+use bd_task::{Action, Task, is_task};
+use bd_tree::{Node, Tree};
 use std::alloc::Global;
 use std::test::Fail;
 
-// Whether the plan's core refuses a replacement for this.
-fn tells(
-    alloc: Global,
-    block: u64,
-    lean: Lean,
-    carried: &[(u64, ActionId)],
-    list: &[ActionId],
-    why: Refusal,
-) -> Result<bool, NoMemory>
-    requires { length list.now < 2 ^ 32 }
+// From a to b, from b to c, from a to c at less than both, and one that needs and does nothing.
+const AB: ActionId = ActionId(0);
+
+const BC: ActionId = ActionId(1);
+
+const AC: ActionId = ActionId(2);
+
+const REST: ActionId = ActionId(3);
+
+fn set(alloc: Global, facts: &[u32]) -> Result<FactSet, NoMemory> {
+    let mut items = Vec::new(alloc);
+    for f in facts {
+        items.push(FactId(*f))?;
+    }
+    FactSet::of(items)
+}
+
+fn action(alloc: Global, cost: u64, from: &[u32], to: &[u32]) -> Result<Action, NoMemory> {
+    Ok(Action {
+        name: Items::of(Vec::new(alloc)),
+        cost,
+        pre: set(alloc, from)?,
+        add: set(alloc, to)?,
+        del: set(alloc, from)?,
+    })
+}
+
+// From a to c, of the facts a, b and c.
+fn task(alloc: Global) -> Result<Option<Task>, NoMemory> {
+    let mut facts = Vec::new(alloc);
+    for _ in 0..3 {
+        facts.push(Items::of(Vec::new(alloc)))?;
+    }
+    let mut actions = Vec::new(alloc);
+    actions.push(action(alloc, 3, &[0], &[1])?)?;
+    actions.push(action(alloc, 3, &[1], &[2])?)?;
+    actions.push(action(alloc, 2, &[0], &[2])?)?;
+    actions.push(action(alloc, 1, &[], &[])?)?;
+    let init = set(alloc, &[0])?;
+    let goal = set(alloc, &[2])?;
+    if !is_task(&facts, &actions, &init, &goal) {
+        return Ok(None);
+    }
+    Ok(Some(Task::new(facts, actions, init, goal)))
+}
+
+// What is told where a core is to open on the chain of a plan, if it may.
+fn begun(alloc: Global, plan: &[ActionId]) -> Result<Option<Result<Core, BeginErr>>, NoMemory>
+    requires { length plan.now + 1 < 2 ^ 32 }
 {
-    let offer = replace(alloc, block, lean, carried, list)?;
-    tells_of(alloc, trip(alloc, 1_000_000)?, &offer, why)
-}
-
-// Whether the shortened core refuses the way over a, replaced by the list, for this.
-fn tells_after(alloc: Global, stop: u32, list: &[ActionId], why: Refusal) -> Result<bool, NoMemory>
-    requires stops { (0 < stop) × (stop ≤ 1_000_000) }
-    requires few { length list.now < 2 ^ 32 }
-{
-    let offer = shorter(alloc, list)?;
-    tells_of(alloc, shortened(alloc, stop)?, &offer, why)
-}
-
-// The core after the way from b to c was made cheaper twice: by a flip in the place of the step to a, and by
-// the direct one in the place of both new steps.
-fn shortened_twice(alloc: Global) -> Result<Option<Core>, NoMemory> {
-    let first = shorter(alloc, &[FLIP, AC])?;
-    let second = replace(alloc, 0, Lean::Early, &[(6, FLIP), (7, AC)], &[BC])?;
-    let core = accepted(alloc, trip(alloc, 2)?, &first, 1);
-    Ok(accepted(alloc, core, &second, 2))
-}
-
-// The core that first refused the way over a for itself, which is no cheaper, and for one that isn't sound.
-fn refused_twice(alloc: Global) -> Result<Option<Core>, NoMemory> {
-    let same = shorter(alloc, &[BA, AC])?;
-    let dear = Refusal::NotCheaper { old: 5, new: 5 };
-    let core = refused(alloc, trip(alloc, 1_000_000)?, &same, dear)?;
-    let none = shorter(alloc, &[PIP, PIP, PIP])?;
-    let needs_c = Refusal::Unlinked(Fault::Need { fact: FactId(2) });
-    refused(alloc, core, &none, needs_c)
-}
-
-// Whether the core of the long way refuses a step's replacement for this.
-fn tells_long(
-    alloc: Global,
-    id: u64,
-    old: ActionId,
-    first: ActionId,
-    why: Refusal,
-) -> Result<bool, NoMemory> {
-    let list = pips(alloc, first, 4_095)?;
-    let offer = replace(alloc, 0, Lean::Early, &[(id, old)], &list)?;
-    tells_of(alloc, long_way(alloc)?, &offer, why)
-}
-
-// Whether the core is as it began.
-fn is_fresh(core: &Core) -> bool {
-    core.task().facts() == 5
-        && core.task().actions() == 9
-        && core.history().is_empty()
-        && is_like(core, 10, false)
-}
-
-#[test]
-fn a_core_begins_with_its_plan(rt: HostRuntime) -> Result<(), Fail> {
-    let alloc = rt.alloc();
-    let core = trip(alloc, 1)?.ok_or("no core")?;
-    assert!(rt; has_list(alloc, &core, &[AB, GET_X, BA, AC, GET_Y])?);
-    assert!(rt; is_fresh(&core));
-    Ok(())
-}
-
-#[test]
-fn no_core_begins_with_an_unsound_plan(rt: HostRuntime) -> Result<(), Fail> {
-    let alloc = rt.alloc();
-    let goal = Fault::Goal { fact: FactId(1) };
-    assert!(rt; is_unsound(alloc, &[1], &[], goal)?);
-    let inside = Fault::Inside {
-        block: NodeId(0),
-        child: NodeId(2),
-        fact: FactId(0),
+    let start = Tree::chain(alloc, plan)?;
+    let task = match task(alloc)? {
+        Some(task) => task,
+        None => return Ok(None),
     };
-    assert!(rt; is_unsound(alloc, &[1], &[AB, AB], inside)?);
-    Ok(())
+    if !may_begin(&task, &start) {
+        return Ok(None);
+    }
+    Ok(Some(Core::begin(alloc, task, start, 2)))
 }
 
 #[test]
-fn a_cheaper_list_is_accepted(rt: HostRuntime) -> Result<(), Fail> {
-    let alloc = rt.alloc();
-    let core = shortened(alloc, 1_000_000)?.ok_or("no core")?;
-    assert!(rt; has_list(alloc, &core, &[AB, GET_X, BC, GET_Y])?);
-    assert!(rt; is_like(&core, 6, true) && has_entries(&core, 1, 0, 0));
-    offers_judged();
+fn no_core_opens_on_half_of_the_way(rt: HostRuntime) -> Result<(), Fail> {
+    let missed = BeginErr::Unsound(Fault::Goal { fact: FactId(2) });
+    match begun(rt.alloc(), &[AB, REST])? {
+        Some(Err(why)) => assert_eq!(rt; why, missed),
+        _ => return Err(Fail::from("no cause")),
+    }
+    assert!(rt; begun(rt.alloc(), &[AB, ActionId(4)])?.is_none());
     Ok(())
 }
 
-// Whether the core took all the replacements that it may, and this is the greatest id of its tree.
-fn is_done(core: &Core, id: u64) -> bool {
-    core.closed() && has_top(core, id)
+// The way over b is replaced by a list.
+fn replacing(alloc: Global, list: &[ActionId]) -> Result<Offer, NoMemory>
+    requires { length list.now < 2 ^ 32 }
+    ensures { IfOk result (λ offer. IsLent offer) }
+{
+    let mut kids = Vec::new(alloc);
+    for (id, action) in [(1, AB), (2, BC)] {
+        kids.push(Node::Step {
+            id: NodeId(id),
+            action,
+        })?;
+    }
+    Ok(Offer::Replace {
+        window: Window {
+            block: NodeId(0),
+            kids: Items::of(kids),
+            lean: Lean::Early,
+        },
+        actions: ActList::from_slice(alloc, list)?,
+    })
 }
 
-#[test]
-fn the_last_replacement_closes(rt: HostRuntime) -> Result<(), Fail> {
-    let core = shortened(rt.alloc(), 1)?.ok_or("no core")?;
-    assert!(rt; is_done(&core, 6));
-    Ok(())
+// The two rests are unordered.
+fn loosening(alloc: Global) -> Result<Offer, NoMemory>
+    ensures { IfOk result (λ offer. IsLent offer) }
+{
+    Ok(Offer::Tighten {
+        block: NodeId(0),
+        left: IdList::from_slice(alloc, &[NodeId(3)])?,
+        right: IdList::from_slice(alloc, &[NodeId(4)])?,
+    })
 }
 
-// The core that takes the direct way after it refused two others.
-fn shortened_late(alloc: Global) -> Result<Option<Core>, NoMemory> {
-    let offer = shorter(alloc, &[BC])?.try_copy(alloc)?;
-    Ok(accepted(alloc, refused_twice(alloc)?, &offer, 1))
+// The places at which a loosening, a replacement and a rebuild are accepted, in this order.
+fn offer_three(alloc: Global, core: &mut Core) -> Result<(u64, u64, u64), Refusal> {
+    let order = PairList::of(alloc, &[])?;
+    let first = core.offer(alloc, &loosening(alloc)?)?;
+    let second = core.offer(alloc, &replacing(alloc, &[AC])?.try_copy(alloc)?)?;
+    let third = core.offer(alloc, &Offer::Rebuild { order })?;
+    Ok((first, second, third))
 }
 
-#[test]
-fn a_refusal_takes_no_id(rt: HostRuntime) -> Result<(), Fail> {
-    let alloc = rt.alloc();
-    let core = shortened_late(alloc)?.ok_or("no core")?;
-    assert!(rt; has_top(&core, 6));
-    assert!(rt; has_list(alloc, &core, &[AB, GET_X, BC, GET_Y])?);
-    Ok(())
+fn is_listed(alloc: Global, tree: &Tree, list: &[ActionId]) -> Result<bool, NoMemory> {
+    Ok(tree.listed(alloc)?.as_slice() == list)
 }
 
-// Whether these are the plans of the core's first three places.
-fn is_replayed(
-    alloc: Global,
-    core: &Core,
-    first: &[ActionId],
-    second: &[ActionId],
-    third: &[ActionId],
-) -> Result<bool, NoMemory> {
-    Ok(
-        is_at(alloc, core, 0, first)?
-            && is_at(alloc, core, 1, second)?
-            && is_at(alloc, core, 2, third)?,
-    )
-}
-
-// Whether the core closed with the direct way, which took the eighth id.
-fn is_direct(core: &Core) -> bool {
-    cost(core) == 6 && is_done(core, 8)
-}
-
-#[test]
-fn a_history_of_two_is_replayed(rt: HostRuntime) -> Result<(), Fail> {
-    let alloc = rt.alloc();
-    let core = shortened_twice(alloc)?.ok_or("no core")?;
-    assert!(rt;
-        is_replayed(
-            alloc,
-            &core,
-            &[AB, GET_X, BA, AC, GET_Y],
-            &[AB, GET_X, FLIP, AC, GET_Y],
-            &[AB, GET_X, BC, GET_Y]
-        )?
-    );
-    assert!(rt; is_direct(&core));
-    Ok(())
-}
-
-// The core after the step from b to a was replaced by a flip.
-fn flipped(alloc: Global) -> Result<Option<Core>, NoMemory> {
-    let offer = shorter(alloc, &[FLIP, AC])?;
-    Ok(accepted(alloc, trip(alloc, 2)?, &offer, 1))
-}
-
-#[test]
-fn a_part_of_the_way_gets_cheaper(rt: HostRuntime) -> Result<(), Fail> {
-    let core = flipped(rt.alloc())?.ok_or("no core")?;
-    assert!(rt; is_like(&core, 8, true) && has_top(&core, 7));
-    Ok(())
-}
-
-// Whether the core's parts are the task, the start tree and its plan, the one replacement, and the tree and its plan.
-fn comes_apart(
-    alloc: Global,
-    core: Core,
-    before: &[ActionId],
-    after: &[ActionId],
-) -> Result<bool, NoMemory> {
+// Whether the core comes apart into its task, its start tree, an offer of each kind, and its tree.
+fn comes_apart(alloc: Global, core: Core) -> Result<bool, NoMemory> {
     let (task, start, history, tree) = core.into_parts();
     Ok(
-        task.actions() == 9
-            && is_listed(alloc, &start, before)?
-            && replacements(&history) == 1
-            && is_listed(alloc, &tree, after)?,
+        task.actions() == 4
+            && is_listed(alloc, &start, &[AB, BC, REST, REST])?
+            && (
+                replacements(&history),
+                tightenings(&history),
+                rebuilds(&history),
+            ) == (1, 1, 1)
+            && is_listed(alloc, &tree, &[AC, REST, REST])?,
     )
 }
 
 #[test]
-fn a_core_comes_apart(rt: HostRuntime) -> Result<(), Fail> {
-    let alloc = rt.alloc();
-    let core = shortened(alloc, 5)?.ok_or("no core")?;
-    assert!(rt;
-        comes_apart(
-            alloc,
-            core,
-            &[AB, GET_X, BA, AC, GET_Y],
-            &[AB, GET_X, BC, GET_Y]
-        )?
-    );
-    Ok(())
-}
-
-#[test]
-fn refusals_by_cost_and_links(rt: HostRuntime) -> Result<(), Fail> {
-    let alloc = rt.alloc();
-    let way = [(3, BA), (4, AC)];
-    let same = Refusal::NotCheaper { old: 5, new: 5 };
-    assert!(rt; tells(alloc, 0, Lean::Early, &way, &[BA, AC], same)?);
-    let needs_c = Refusal::Unlinked(Fault::Need { fact: FactId(2) });
-    assert!(rt; tells(alloc, 0, Lean::Early, &way, &[], needs_c)?);
-    Ok(())
-}
-
-#[test]
-fn refusals_by_window(rt: HostRuntime) -> Result<(), Fail> {
-    let alloc = rt.alloc();
-    let apart = [(1, AB), (3, BA)];
-    assert!(rt; tells(alloc, 0, Lean::Late, &apart, &[], Refusal::Split)?);
-    assert!(rt; tells(alloc, 7, Lean::Early, &[(3, BA)], &[], Refusal::Gone)?);
-    assert!(rt; tells(alloc, 0, Lean::Early, &[(3, AC)], &[], Refusal::Gone)?);
-    Ok(())
-}
-
-#[test]
-fn refusals_of_a_later_offer(rt: HostRuntime) -> Result<(), Fail> {
-    let alloc = rt.alloc();
-    assert!(rt; tells_after(alloc, 1_000_000, &[BC], Refusal::Gone)?);
-    let closed = Refusal::Closed {
-        replaced: 1,
-        entries: 1,
+fn each_kind_is_accepted_once(rt: HostRuntime) -> Result<(), Fail> {
+    let Some(Ok(mut core)) = begun(rt.alloc(), &[AB, BC, REST, REST])? else {
+        return Err(Fail::from("no core"));
     };
-    assert!(rt; tells_after(alloc, 1, &[BC], closed)?);
-    Ok(())
-}
-
-// Each offer deserves two refusals, and gets the earlier one.
-#[test]
-fn the_earlier_refusal_is_told(rt: HostRuntime) -> Result<(), Fail> {
-    let alloc = rt.alloc();
-    let closed = Refusal::Closed {
-        replaced: 1,
-        entries: 1,
-    };
-    assert!(rt; tells_after(alloc, 1, &[NONE], closed)?);
-    let unknown = Refusal::NoAction { number: 9 };
-    assert!(rt;
-        tells(
-            alloc,
-            7,
-            Lean::Early,
-            &[],
-            &[BC, NONE, ActionId(10)],
-            unknown
-        )?
+    let unknown = replacing(rt.alloc(), &[AC, ActionId(7), ActionId(4)])?;
+    assert_eq!(rt;
+        core.offer(rt.alloc(), &unknown),
+        Err(Refusal::NoAction { number: 7 })
     );
-    assert!(rt; tells(alloc, 0, Lean::Early, &[], &[BA], Refusal::Gone)?);
-    Ok(())
-}
-
-#[test]
-fn the_earlier_refusal_of_a_standing_block_is_told(rt: HostRuntime) -> Result<(), Fail> {
-    let alloc = rt.alloc();
-    let apart = [(1, AB), (3, BA)];
-    assert!(rt; tells(alloc, 0, Lean::Late, &apart, &[AB, BA], Refusal::Split)?);
-    let way = [(3, BA), (4, AC)];
-    let dear = Refusal::NotCheaper { old: 5, new: 6 };
-    assert!(rt; tells(alloc, 0, Lean::Early, &way, &[BA, BA], dear)?);
-    Ok(())
-}
-
-#[test]
-fn too_many_steps_are_refused(rt: HostRuntime) -> Result<(), Fail> {
-    let alloc = rt.alloc();
-    let long = Refusal::TooLong { steps: 4_097 };
-    assert!(rt; tells_long(alloc, 1, FLIP, PIP, long)?);
-    // It wouldn't be sound either.
-    assert!(rt; tells_long(alloc, 2, AC, PIP, long)?);
-    let dear = Refusal::NotCheaper { old: 1, new: 3 };
-    assert!(rt; tells_long(alloc, 1, FLIP, AB, dear)?);
-    Ok(())
-}
-
-// Whether the core's tree has as many steps as one may have.
-fn is_longest(core: &Core) -> bool {
-    core.tree().steps() == 4_096 && is_like(core, 3, true)
-}
-
-#[test]
-fn as_many_steps_as_may_be(rt: HostRuntime) -> Result<(), Fail> {
-    let core = lengthened(rt.alloc(), 4_094)?.ok_or("no core")?;
-    assert!(rt; is_longest(&core));
+    assert_eq!(rt; offer_three(rt.alloc(), &mut core), Ok((1, 2, 3)));
+    assert!(rt; !core.due() && !core.closed() && core.tree().pairs() == 0);
+    if core.history().len() >= 1 {
+        assert_eq!(rt; core.at(rt.alloc(), 1)?.pairs(), 5);
+    }
+    assert!(rt; comes_apart(rt.alloc(), core)?);
     Ok(())
 }

@@ -1,4 +1,4 @@
-use Rattle.std.proofs.Common.{◌≡◌, ℕ, Bool, true, false, sym, ap, ◌∙◌, subst, rules}
+use Rattle.std.proofs.Common.{◌≡◌, ℕ, true, false, sym, ap, ◌∙◌, subst, rules}
 use Rattle.bd_tree.specs.declared.node.Node.{Node}
 use Rattle.bd_shape.specs.Grouped.{CanGroup, HasSide, grouped, side_id}
 use Rattle.bd_shape.specs.Hull.{between_at}

@@ -1,4 +1,4 @@
-use Rattle.std.proofs.Common.{◌≡◌, ℕ, IfOk, refl, sym, ap, ◌∙◌, subst}
+use Rattle.std.proofs.Common.{◌≡◌, ℕ, IfOk, refl, ap, ◌∙◌, subst}
 use Rattle.bd_tree.specs.declared.node.Node.{Node}
 use Rattle.bd_shape.specs.Grouped.{grouped}
 use Rattle.bd_shape.specs.Tightened.{both_grouped}

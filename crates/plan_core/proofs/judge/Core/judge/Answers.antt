@@ -1,6 +1,5 @@
-use Rattle.std.proofs.Common.{◌≡◌, true, length, count_by, List, ap, ◌∙◌, sym, rules}
-use Rattle.plan_core.specs.Core.{is_closed, is_replacement}
-use Rattle.plan_core.specs.declared.offer.Offer.{Offer}
+use Rattle.std.proofs.Common.{◌≡◌, true, rules}
+use Rattle.plan_core.specs.Core.{is_closed}
 use Rattle.plan_core.proofs.AcceptLemmas.{closed_refuses}
 use Rattle.plan_core.proofs.judge.Core.judge.Goals as goal
 

@@ -1,9 +1,9 @@
-use Rattle.std.proofs.Common.{◌≡◌, ℕ, true, false, sym, ap, ◌∙◌, subst, rules}
+use Rattle.std.proofs.Common.{◌≡◌, true, false, sym, ap, ◌∙◌, subst, rules}
 use Rattle.bd_tree.specs.declared.node.Node.{Node}
 use Rattle.bd_shape.specs.Grouped.{side_id}
 use Rattle.bd_shape.specs.Tightened.{both_grouped, right_fresh}
 use Rattle.bd_shape.specs.Unordered.{CanUnorder, unordered}
-use Rattle.plan_core.specs.Replies.{HasSides, AreSides, tightened_in}
+use Rattle.plan_core.specs.Replies.{HasSides, AreSides}
 use Rattle.plan_core.specs.Sides.{CanTighten, are_sides, has_sides}
 use Rattle.plan_core.proofs.SideLemmas.{of_none, of_some, same_sides, same_can_tighten, same_tightened}
 use Rattle.plan_core.proofs.TightenLemmas.{can_tighten}

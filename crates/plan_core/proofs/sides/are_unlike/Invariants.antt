@@ -1,6 +1,0 @@
-use Rattle.std.proofs.Common.{◌≡◌, ◌++◌, drop}
-use Rattle.bd_tree.specs.WellFormed.{are_distinct}
-use Rattle.plan_core.proofs.sides.are_unlike.Given as goal
-
-abbrev pub invariant-loop-id : goal.invariant-loop-id
-invariant-loop-id l = (l.rest ≡ drop l.id-index l.left) × (are_distinct (l.rest ++ l.right) ≡ are_distinct (l.left ++ l.right))
