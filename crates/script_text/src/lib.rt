@@ -17,8 +17,6 @@ mod script;
 mod sections;
 #[cfg(test)]
 mod tests;
-#[cfg(test)]
-mod tree_tests;
 mod words;
 
 pub use script::Script;
