@@ -1,10 +1,12 @@
 -- A good script is run, where nothing outside fails: every other status contradicts what it comes with.
-use Rattle.std.proofs.Common.{◌≡◌, ℕ, ◌<◌, ◌≤◌, Bool, List, Option, Some, None, ◌⊎◌, inl, inr, length, sym, ap, ◌∙◌, subst, arith}
+use Rattle.std.proofs.Common.{◌≡◌, ℕ, ◌<◌, ◌≤◌, Bool, true, false, List, Option, Some, None, unwrap_or, ◌⊎◌, inl, inr, length, sym, ap, ◌∙◌, subst, arith}
 use Rattle.bd_base.specs.Causes.{Rose}
 use Rattle.bd_base.specs.Shelf.{Told, text}
 use Rattle.bd_base.specs.declared.text_err.Limit.{Limit}
 use Rattle.bd_base.specs.declared.text_err.Limit.TheVariants as limit
 use Rattle.bd_task.specs.Valid.{IsValid}
+use Rattle.bd_tree.specs.declared.node.Node.{Node}
+use Rattle.bd_tree.specs.Chain.{chain_of}
 use Rattle.bd_links.specs.Sound.{IsSound}
 use Rattle.seq_check.specs.declared.judging.Broken.TheVariants as broken
 use Rattle.script_text.specs.declared.script.Script.{Script}
@@ -15,7 +17,7 @@ use Rattle.bd_top.specs.declared.record.RunRecord.{RunRecord}
 use Rattle.bd_top.specs.declared.status.File.TheVariants as file
 use Rattle.bd_top.specs.declared.status.Status.{Status}
 use Rattle.bd_top.specs.declared.status.Status.TheVariants as status
-use Rattle.bd_top.specs.Prepared.{Counts, WasRead, IsToldAs, IsTextRefusal, IsNamedRefusal, IsRefusal, IsUnread, IsLong, IsBroken, IsOver, IsNoScript, IsUnsoundStart, HasUnsoundStart}
+use Rattle.bd_top.specs.Prepared.{Counts, WasRead, IsToldAs, IsTextRefusal, IsNamedRefusal, IsRefusal, IsUnread, IsLong, IsBroken, IsOver, IsNoScript, IsUnsoundStart, HasUnsoundStart, IsReadyText, start_of}
 use Rattle.bd_top.specs.Words.{script_named}
 use Rattle.bd_top.specs.Run.{Ends, OfRun, IsWriteFault, IsRefused, IsGood, IsFaultless, IsDoneOrNoMemory}
 use Rattle.bd_top.specs.Taken.{Taken, HasFailed}
@@ -26,44 +28,56 @@ differs o a e h = cc
 named_same : (o : Option (List ℕ)) (m n : List ℕ) → o ≡ Some m → o ≡ Some n → n ≡ m
 named_same o m n e h = cc
 
-module _ (words : List (List ℕ)) (tells : List ℕ → Told) (script : Script) (good : IsGood words tells script) where
+-- the text spells a script within the limits, whose plan is valid and whose start tree, where it has one, is sound
+module _ (t : List ℕ) (script : Script) (spelled : SpellsScript t script) (within : over_of script ≡ None) (valid : IsValid script.task script.plan)
+    (starts : (root : Node) → script.start ≡ Some root → IsSound script.task root) where
   not_valid : (s : Script) → s ≡ script → (IsValid s.task s.plan → ⊥) → ⊥
-  not_valid s same invalid = invalid (subst (λ (z : Script). IsValid z.task z.plan) (sym same) good.valid)
+  not_valid s same invalid = invalid (subst (λ (z : Script). IsValid z.task z.plan) (sym same) valid)
 
   no_over : (s : Script) (o : Limit × ℕ) → s ≡ script → over_of s ≡ Some o → ⊥
-  no_over s o same e = differs (over_of script) o good.within (subst (λ (z : Script). over_of z ≡ Some o) same e)
+  no_over s o same e = differs (over_of script) o within (subst (λ (z : Script). over_of z ≡ Some o) same e)
 
   not_unsound : (s : Script) → s ≡ script → HasUnsoundStart s → ⊥
-  not_unsound s same h = h.unsound (subst (λ (z : Script). IsSound z.task h.root) (sym same) (good.starts h.root (ap (λ (z : Script). z.start) (sym same) ∙ h.starts)))
+  not_unsound s same h = h.unsound (subst (λ (z : Script). IsSound z.task h.root) (sym same) (starts h.root (ap (λ (z : Script). z.start) (sym same) ∙ h.starts)))
 
+  same_script : (s : Script) → SpellsScript t s → s ≡ script
+  same_script s h = one_spelled t s script h spelled
+
+  no_text_refusal : (why : Status) (line : List ℕ) → IsTextRefusal t why line → ⊥
+  no_text_refusal (status.PlanInvalid (broken.Step at f)) line h = not_valid h.script (same_script h.script h.spelled) h.invalid
+  no_text_refusal (status.PlanInvalid (broken.Goal f)) line h = not_valid h.script (same_script h.script h.spelled) h.invalid
+  no_text_refusal (status.PlanInvalid broken.NoMemory) line h = h
+  no_text_refusal (status.TextRefused file.Script place cause) line (inl h) = h.none script spelled
+  no_text_refusal (status.TextRefused file.Script place cause) line (inr h) = not_unsound h.script (same_script h.script h.spelled) h.fails.start
+  no_text_refusal (status.TextRefused file.Domain place cause) line h = h
+  no_text_refusal (status.TextRefused file.Problem place cause) line h = h
+  no_text_refusal (status.TextRefused file.Plan place cause) line h = h
+  no_text_refusal (status.OverLimit l count) line h = no_over h.script (l, count) (same_script h.script h.spelled) h.over
+  no_text_refusal status.Done line h = h
+  no_text_refusal status.Usage line h = h
+  no_text_refusal (status.ReadFault n missing) line h = h
+  no_text_refusal status.WriteFault line h = h
+  no_text_refusal status.NoMemory line h = h
+
+started : (script : Script) → IsSound script.task (start_of script) → (root : Node) → script.start ≡ Some root → IsSound script.task root
+started script sound root e = subst (λ (z : Option Node). IsSound script.task (unwrap_or z (chain_of script.plan))) e sound
+
+-- a text that is ready to run is refused for nothing
+pub no_ready_refusal : (t : List ℕ) (script : Script) → IsReadyText t script → (why : Status) (line : List ℕ) → IsTextRefusal t why line → ⊥
+no_ready_refusal t script h why line refusal = no_text_refusal t script h.spelled h.within h.runs.valid (started script h.runs.sound) why line refusal
+
+module _ (words : List (List ℕ)) (tells : List ℕ → Told) (script : Script) (good : IsGood words tells script) where
   read_same : (read : List ℕ) → IsToldAs (tells good.name) read → good.read ≡ read
   read_same read told = subst (λ z. IsToldAs z read) good.told told
 
-  same_script : (t : List ℕ) (s : Script) → good.read ≡ t → SpellsScript t s → s ≡ script
-  same_script t s is spelled = one_spelled good.read s script (subst (λ z. SpellsScript z s) (sym is) spelled) good.spelled
-
-  no_text_refusal : (t : List ℕ) (why : Status) (line : List ℕ) → good.read ≡ t → IsTextRefusal t why line → ⊥
-  no_text_refusal t (status.PlanInvalid (broken.Step at f)) line is h = not_valid h.script (same_script t h.script is h.spelled) h.invalid
-  no_text_refusal t (status.PlanInvalid (broken.Goal f)) line is h = not_valid h.script (same_script t h.script is h.spelled) h.invalid
-  no_text_refusal t (status.PlanInvalid broken.NoMemory) line is h = h
-  no_text_refusal t (status.TextRefused file.Script place cause) line is (inl h) = h.none script (subst (λ z. SpellsScript z script) is good.spelled)
-  no_text_refusal t (status.TextRefused file.Script place cause) line is (inr h) = not_unsound h.script (same_script t h.script is h.spelled) h.fails.start
-  no_text_refusal t (status.TextRefused file.Domain place cause) line is h = h
-  no_text_refusal t (status.TextRefused file.Problem place cause) line is h = h
-  no_text_refusal t (status.TextRefused file.Plan place cause) line is h = h
-  no_text_refusal t (status.OverLimit l count) line is h = no_over h.script (l, count) (same_script t h.script is h.spelled) h.over
-  no_text_refusal t status.Done line is h = h
-  no_text_refusal t status.Usage line is h = h
-  no_text_refusal t (status.ReadFault n missing) line is h = h
-  no_text_refusal t status.WriteFault line is h = h
-  no_text_refusal t status.NoMemory line is h = h
-
   no_read_refusal : (why : Status) (line : List ℕ) → WasRead (tells good.name) (λ t. IsTextRefusal t why line) → ⊥
-  no_read_refusal why line r = no_text_refusal r.read why line (read_same r.read r.is_told) r.holds
+  no_read_refusal why line r =
+      no_text_refusal r.read script (subst (λ z. SpellsScript z script) (read_same r.read r.is_told) good.spelled) good.within good.valid good.starts why line r.holds
 
   module _ (c : Counts) (faultless : IsFaultless c.faults c.faults_after) where
     read_fault : (missing : Bool) → IsUnread (text good.read) c missing → ⊥
-    read_fault missing h = faultless h.0
+    read_fault true h = h
+    read_fault false h = faultless h.0
 
     too_long : IsLong (text good.read) c → ⊥
     too_long h = let long : 16_777_216 < length good.read = h.1 in let short : length good.read ≤ 16_777_216 = good.short in omega arith

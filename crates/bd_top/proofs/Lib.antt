@@ -2,6 +2,8 @@ pub mod RunLemmas
 pub mod NamedLemmas
 pub mod UnreadLemmas
 pub mod CompleteLemmas
+pub mod ExactLemmas
+pub mod UsableLemmas
 pub mod TextLemmas
 pub mod ReplayLemmas
 pub mod EndLemmas

@@ -7,7 +7,7 @@ use Rattle.bd_task.specs.TaskView.{TaskView}
 use Rattle.plan_core.specs.Core.{CoreView, State, applied, replay, opened, state_of, accepted}
 use Rattle.plan_core.specs.Law.{IsLawful, after_reply}
 use Rattle.plan_core.proofs.LawLemmas.{replay-append}
-use Rattle.plan_core.specs.Replies.{Replies}
+use Rattle.plan_core.specs.Replies.{Replies, TellsFact}
 use Rattle.plan_core.specs.declared.offer.Offer.{Offer}
 use Rattle.plan_core.specs.declared.refusal.Refusal.{Refusal}
 use Rattle.plan_core.specs.declared.refusal.Refusal.TheVariants as refusal
@@ -28,20 +28,20 @@ made_one core last offer before after (Ok done) m = m
 made_one core last offer before after (Err WriteFault) m = m
 made_one core last offer before after (Err NoMemory) m = inl m
 
-pub told_of : (why : Refusal) → (why ≡ refusal.NoMemory → ⊥) → IsTold (Err why)
-told_of (refusal.Closed replaced entries) n = tt
-told_of (refusal.NoAction number) n = tt
-told_of refusal.Gone n = tt
-told_of refusal.Split n = tt
-told_of (refusal.NotCheaper old new) n = tt
-told_of (refusal.TooLong steps) n = tt
-told_of (refusal.Unlinked fault) n = tt
-told_of refusal.Between n = tt
-told_of (refusal.TooDeep depth) n = tt
-told_of (refusal.NoGain old new) n = tt
-told_of refusal.Idle n = tt
-told_of (refusal.BadOrder i j) n = tt
-told_of refusal.NoMemory n = n refl
+pub told_of : (facts : ℕ) (why : Refusal) → TellsFact facts why → (why ≡ refusal.NoMemory → ⊥) → IsTold facts (Err why)
+told_of facts (refusal.Closed replaced entries) h n = h
+told_of facts (refusal.NoAction number) h n = h
+told_of facts refusal.Gone h n = h
+told_of facts refusal.Split h n = h
+told_of facts (refusal.NotCheaper old new) h n = h
+told_of facts (refusal.TooLong steps) h n = h
+told_of facts (refusal.Unlinked fault) h n = h
+told_of facts refusal.Between h n = h
+told_of facts (refusal.TooDeep depth) h n = h
+told_of facts (refusal.NoGain old new) h n = h
+told_of facts refusal.Idle h n = h
+told_of facts (refusal.BadOrder i j) h n = h
+told_of facts refusal.NoMemory h n = absurd (n refl)
 
 pub puts_same : (p q : List ℕ) (s : Taken) (r : Result (Unit {0}) Stop) → p ≡ q → Puts p s r → Puts q s r
 puts_same p q s r e h = subst (λ z. Puts z s r) e h
@@ -99,10 +99,10 @@ replies_same task before after place e = ap (reply_texts task 1) e ∙ reply_tex
 -- a list of offers
 
 more : (offers : List Offer) (replies : List Reply) (core mid last : CoreView) (offer : Offer) (reply : Reply) → Makes core offers replies mid → length replies < length offers → offer ≡ get_or offers (length replies) offer →
-    IsTold reply → Replies mid offer reply → last ≡ after_reply mid offer reply → Makes core offers (replies ++ reply ∷ []) last
+    IsTold (length mid.task.facts) reply → Replies mid offer reply → last ≡ after_reply mid offer reply → Makes core offers (replies ++ reply ∷ []) last
 more [] replies core mid last offer reply m lt is told replied leads = absurd (omega arith)
 more (o ∷ os) [] core mid last offer reply m lt is told replied leads =
-    (told, subst (λ z. Replies z o reply) m (subst (λ z. Replies mid z reply) is replied), leads ∙ ap (λ z. after_reply z offer reply) m ∙ ap (λ z. after_reply core z reply) is)
+    (subst (λ (z : CoreView). IsTold (length z.task.facts) reply) m told, subst (λ z. Replies z o reply) m (subst (λ z. Replies mid z reply) is replied), leads ∙ ap (λ z. after_reply z offer reply) m ∙ ap (λ z. after_reply core z reply) is)
 more (o ∷ os) (r ∷ rs) core mid last offer reply m lt is told replied leads =
     (m.0, m.1, more os rs (after_reply core o r) mid last offer reply m.2 (omega arith) is told replied leads)
 

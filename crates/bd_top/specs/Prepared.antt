@@ -142,12 +142,14 @@ pub record Counts : Type 0 where
   pub longs : ℕ
   pub longs_after : ℕ
 
--- a text couldn't be read: it is told that it isn't there, which is told as missing, or the shelf's count of faults rose
+-- a text couldn't be read: it is told that it isn't there, which is told as missing, or the shelf's count of faults rose; a text
+-- that is told is never missing
 abbrev pub IsUnread : Told → Counts → Bool → Type 0
 IsUnread absent c true = Unit {0}
 IsUnread absent c false = ⊥
 IsUnread untold c missing = Rose c.faults c.faults_after
-IsUnread (text t) c missing = Rose c.faults c.faults_after × (length t ≤ 16_777_216)
+IsUnread (text t) c true = ⊥
+IsUnread (text t) c false = Rose c.faults c.faults_after × (length t ≤ 16_777_216)
 
 -- a text was too long: the count of long texts rose, and the text that is told has more than 16 MiB
 abbrev pub IsLong : Told → Counts → Type 0

@@ -1,8 +1,8 @@
 -- How the offers of a script are made one by one, and what is put for them.
-use Rattle.std.specs.Prelude.{◌≡◌, ◌⊎◌, ℕ, ◌≤◌, List, [], ◌∷◌, ◌++◌, Result, Ok, Err}
+use Rattle.std.specs.Prelude.{◌≡◌, ◌⊎◌, ℕ, ◌≤◌, List, [], ◌∷◌, ◌++◌, length, Result, Ok, Err}
 use Rattle.plan_core.specs.Core.{CoreView, opened}
 use Rattle.plan_core.specs.Law.{after_reply}
-use Rattle.plan_core.specs.Replies.{Replies}
+use Rattle.plan_core.specs.Replies.{Replies, TellsFact}
 use Rattle.plan_core.specs.declared.offer.Offer.{Offer}
 use Rattle.plan_core.specs.declared.refusal.Refusal.{Refusal}
 use Rattle.plan_core.specs.declared.refusal.Refusal.TheVariants as refusal
@@ -11,17 +11,18 @@ use Rattle.bd_top.specs.declared.replay.Stop.TheVariants as stop
 use Rattle.bd_top.specs.Taken.{Taken, IsSilent, Receives, ReceivesPart, HasFailed, IsCut}
 use Rattle.bd_top.specs.Texts.{better_texts}
 
--- the reply says something of its offer: memory wasn't wanting
-abbrev pub IsTold : Result ℕ Refusal → Type 0
-IsTold (Err refusal.NoMemory) = ⊥
-IsTold other = Unit {0}
+-- the reply says something of its offer, where there are so many facts: memory wasn't wanting, and a fact that it tells is one of them
+abbrev pub IsTold : ℕ → Result ℕ Refusal → Type 0
+IsTold facts (Err refusal.NoMemory) = ⊥
+IsTold facts (Err why) = TellsFact facts why
+IsTold facts (Ok place) = Unit {0}
 
 -- the first offers of a list were made, as many as there are replies: each has the defined reply on the core that those before it
 -- led to, and together they led to the last core
 abbrev pub Makes : CoreView → List Offer → List (Result ℕ Refusal) → CoreView → Type 0
 Makes core offers [] last = last ≡ core
 Makes core [] (reply ∷ replies) last = ⊥
-Makes core (offer ∷ offers) (reply ∷ replies) last = IsTold reply × Replies core offer reply × Makes (after_reply core offer reply) offers replies last
+Makes core (offer ∷ offers) (reply ∷ replies) last = IsTold (length core.task.facts) reply × Replies core offer reply × Makes (after_reply core offer reply) offers replies last
 
 -- the better texts of a core's history
 abbrev pub betters_of : CoreView → List ℕ
@@ -30,7 +31,7 @@ betters_of core = better_texts core.task 0 (opened core.start) core.history
 -- one more offer was made: its reply stands last, and led to the last core
 pub record IsMade (core : CoreView) (offer : Offer) (before after : List (Result ℕ Refusal)) (last : CoreView) : Type 0 where
   pub reply : Result ℕ Refusal
-  pub told : IsTold reply
+  pub told : IsTold (length core.task.facts) reply
   pub replied : Replies core offer reply
   pub listed : after ≡ before ++ reply ∷ []
   pub leads : last ≡ after_reply core offer reply

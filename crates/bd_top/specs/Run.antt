@@ -1,26 +1,29 @@
 -- How a run ends, and what its sinks have received then.
-use Rattle.std.specs.Prelude.{◌≡◌, ◌⊎◌, ℕ, ◌≤◌, ◌==◌, if◌then◌else◌, List, length, Option, Some, None, Result, Ok, Err}
+use Rattle.std.specs.Prelude.{◌≡◌, ◌⊎◌, ◌↔◌, ℕ, ◌≤◌, ◌==◌, if◌then◌else◌, List, [], ◌∷◌, length, take, Option, Some, None, Result, Ok, Err}
 use Rattle.bd_base.specs.Causes.{Rose}
 use Rattle.bd_base.specs.Shelf.{Told, text}
+use Rattle.bd_base.specs.declared.text_err.Cause.{Cause}
 use Rattle.bd_task.specs.Valid.{IsValid}
 use Rattle.bd_tree.specs.declared.node.Node.{Node}
 use Rattle.bd_links.specs.Sound.{IsSound}
-use Rattle.plan_core.specs.Core.{CoreView, opening}
-use Rattle.plan_core.specs.Law.{OpensOn, IsLawful}
+use Rattle.plan_core.specs.Core.{CoreView, opened, opening, replay}
+use Rattle.plan_core.specs.Law.{OpensOn, IsLawful, IsPrintable}
 use Rattle.plan_core.specs.declared.offer.Offer.{Offer}
 use Rattle.plan_core.specs.declared.refusal.Refusal.{Refusal}
+use Rattle.seq_check.specs.declared.judging.Broken.{Broken}
 use Rattle.script_text.specs.declared.script.Script.{Script}
 use Rattle.script_text.specs.Limits.{over_of}
 use Rattle.script_text.specs.Spells.{SpellsScript}
 use Rattle.bd_top.specs.declared.record.End.{End}
 use Rattle.bd_top.specs.declared.record.End.TheVariants as end
 use Rattle.bd_top.specs.declared.record.RunRecord.{RunRecord}
+use Rattle.bd_top.specs.declared.status.File.{File}
 use Rattle.bd_top.specs.declared.status.Status.{Status}
 use Rattle.bd_top.specs.declared.status.Status.TheVariants as status
 use Rattle.bd_top.specs.declared.replay.Stop.{Stop}
 use Rattle.bd_top.specs.declared.replay.Stop.TheVariants as stop
-use Rattle.bd_top.specs.Prepared.{Counts, IsReady, IsRefusal, start_of}
-use Rattle.bd_top.specs.Replay.{Makes}
+use Rattle.bd_top.specs.Prepared.{Counts, IsReady, IsReadyText, IsRefusal, IsTextRefusal, start_of}
+use Rattle.bd_top.specs.Replay.{Makes, IsTold}
 use Rattle.bd_top.specs.Taken.{Taken, IsSilent, Receives, ReceivesPart, HasFailed, IsCut}
 use Rattle.bd_top.specs.Texts.{summary_of, printed_of, noted_of}
 use Rattle.bd_top.specs.Words.{script_named}
@@ -145,3 +148,48 @@ abbrev pub IsDoneOrNoMemory : Status → Type 0
 IsDoneOrNoMemory status.Done = Unit {0}
 IsDoneOrNoMemory status.NoMemory = Unit {0}
 IsDoneOrNoMemory other = ⊥
+
+-- the statuses that the words and the texts alone decide
+abbrev pub IsDecided : Status → Type 0
+IsDecided status.Done = Unit {0}
+IsDecided (status.PlanInvalid broken) = Unit {0}
+IsDecided status.Usage = Unit {0}
+IsDecided (status.TextRefused file place cause) = Unit {0}
+IsDecided other = ⊥
+
+-- the words name a script, and this is its text as it is told
+pub record IsNamedText (words : List (List ℕ)) (tells : List ℕ → Told) (t : List ℕ) : Type 0 where
+  pub name : List ℕ
+  pub named : script_named words ≡ Some name
+  pub told : tells name ≡ text t
+
+-- the text spells a script that is ready to run
+pub record IsRunText (t : List ℕ) : Type 0 where
+  pub script : Script
+  pub ready : IsReadyText t script
+
+-- the text is refused so
+pub record IsRefusedText (t : List ℕ) (why : Status) : Type 0 where
+  pub line : List ℕ
+  pub refusal : IsTextRefusal t why line
+
+-- each status that the words and the texts decide comes exactly where its cause stands: usage where the words name no script, and
+-- of a text that is told: done where it is ready to run, and each refusal of a plan or a text where that is its refusal
+pub record IsExact (words : List (List ℕ)) (tells : List ℕ → Told) (why : Status) : Type 0 where
+  pub usage : (why ≡ status.Usage) ↔ (script_named words ≡ None)
+  pub done : (t : List ℕ) → IsNamedText words tells t → (why ≡ status.Done) ↔ IsRunText t
+  pub invalid : (t : List ℕ) → IsNamedText words tells t → (b : Broken) → (why ≡ status.PlanInvalid b) ↔ IsRefusedText t (status.PlanInvalid b)
+  pub refused : (t : List ℕ) → IsNamedText words tells t → (file : File) (place : ℕ) (cause : Cause) →
+      (why ≡ status.TextRefused file place cause) ↔ IsRefusedText t (status.TextRefused file place cause)
+
+-- a fact that one of the replies tells is one of so many
+abbrev pub AreTold : ℕ → List (Result ℕ Refusal) → Type 0
+AreTold facts [] = Unit {0}
+AreTold facts (reply ∷ replies) = IsTold facts reply × AreTold facts replies
+
+-- each text of the run may be asked for: that of its start tree, of its tree and of the tree at each place, and of each reply
+pub record IsUsable (run : RunRecord) : Type 0 where
+  pub start : IsPrintable run.task run.start
+  pub tree : IsPrintable run.task run.tree
+  pub trees : (place : ℕ) → IsPrintable run.task (replay (opened run.start) (take place run.history)).tree
+  pub told : AreTold (length run.task.facts) run.replies

@@ -1,4 +1,4 @@
-ghost use Rattle.std.specs.Prelude.{◌≡◌, ℕ, ◌<◌, ◌≤◌, List, [], All, IfOk, map, string_bytes, length, unwrap_or, vec_capacity};
+ghost use Rattle.std.specs.Prelude.{◌≡◌, ℕ, ◌<◌, ◌≤◌, List, [], All, IfOk, IfSome, map, string_bytes, length, unwrap_or, vec_capacity};
 ghost use Rattle.bd_links.specs.Sound.{IsSound};
 ghost use Rattle.bd_tree.specs.Chain.{chain_of};
 ghost use Rattle.plan_core.specs.Core.{opening};
@@ -6,7 +6,7 @@ ghost use Rattle.plan_core.specs.Law.{IsLawful, IsPrintable, MayBegin};
 ghost use Rattle.plan_core.specs.Replies.{IsLent};
 ghost use Rattle.script_text.specs.declared.script.Script.{Script};
 ghost use Rattle.bd_top.specs.Prepared.{IsRunnable};
-ghost use Rattle.bd_top.specs.Run.{Ends, Finishes, IsDoneOrNoMemory, IsFaultless, IsGood, Replays, opening_of, record_of, status_of};
+ghost use Rattle.bd_top.specs.Run.{Ends, Finishes, IsDecided, IsDoneOrNoMemory, IsExact, IsFaultless, IsGood, IsUsable, Replays, opening_of, record_of, status_of};
 
 use crate::prepare::{Prepared, prepare_words};
 use crate::record::{End, Reply, RunRecord};
@@ -223,6 +223,10 @@ pub fn run_alone<H: Shelf, S: Sink, E: Sink>(
         (record { before = E.told notes.old; after = E.told notes.new; faults = E.faults notes.old; faults_after = E.faults notes.new })
         result.status result.run }
     ensures shelf { (n : List ℕ) → H.tells shelf.new n ≡ H.tells shelf.old n }
+    // Each of the statuses 0 to 3 comes exactly where its cause stands, where none of the others comes.
+    ensures exact { IsDecided result.status → IsExact (map string_bytes words.now) (H.tells shelf.old) result.status }
+    // Whoever has the record of a run may ask for each of its texts.
+    ensures usable { IfSome result.run (λ run. IsUsable run) }
     // A good script is run, where nothing outside fails.
     ensures complete { (script : Script) → IsGood (map string_bytes words.now) (H.tells shelf.old) script → IsFaultless (H.faults shelf.old) (H.faults shelf.new) → IsFaultless (S.faults out.old) (S.faults out.new) → IsFaultless (E.faults notes.old) (E.faults notes.new) → IsDoneOrNoMemory result.status }
 {

@@ -25,8 +25,4 @@ pub use summary::summary_text;
 pub use usage::USAGE;
 
 #[cfg(test)]
-mod runs;
-#[cfg(test)]
-mod start_tests;
-#[cfg(test)]
 mod tests;

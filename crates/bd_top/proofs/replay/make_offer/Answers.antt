@@ -18,7 +18,7 @@ pub returns-in_default-clause-made : goal.returns-in_default-clause-made
 returns-in_default-clause-made g c =
     made_one _ _ _ _ _ c.put_reply.result (record {
       reply = Err c.in-Err.why;
-      told = told_of c.in-Err.why c.in_default.not-NoMemory;
+      told = told_of _ c.in-Err.why c.in-Err.ensures.fact c.in_default.not-NoMemory;
       replied = c.in-Err.ensures.reply;
       listed = c.push_within-in_default.ensures.items;
       leads = c.in-Err.ensures.err;
