@@ -116,8 +116,8 @@ fn the_trip_takes_nothing_but_the_way(rt: HostRuntime) -> Result<(), Fail> {
 // Of kids to b, for x and back: who gives and who deletes the fact of b, and that the way back, which isn't
 // ordered with getting x, is linked for it while getting x is not.
 fn is_b_told(order: &PairList, touches: &Touches) -> bool {
-    *givers(touches, FactId(B)) == [0]
-        && *deleters(touches, FactId(B)) == [2]
+    givers(touches, FactId(B)) == [0].as_slice()
+        && deleters(touches, FactId(B)) == [2].as_slice()
         && is_linked(order, touches, 2, FactId(B))
         && !is_linked(order, touches, 1, FactId(B))
         && !all_later(order, touches, 1, FactId(B))

@@ -78,8 +78,9 @@ fn begun(alloc: Global, plan: &[ActionId]) -> Result<Option<Result<Core, BeginEr
 #[test]
 fn no_core_opens_on_half_of_the_way(rt: HostRuntime) -> Result<(), Fail> {
     let missed = BeginErr::Unsound(Fault::Goal { fact: FactId(2) });
-    match begun(rt.alloc(), &[AB, REST])? {
-        Some(Err(why)) => assert_eq!(rt; why, missed),
+    let told = begun(rt.alloc(), &[AB, REST])?;
+    match &told {
+        Some(Err(why)) => assert_eq!(rt; *why, missed),
         _ => return Err(Fail::from("no cause")),
     }
     assert!(rt; begun(rt.alloc(), &[AB, ActionId(4)])?.is_none());
