@@ -1,6 +1,5 @@
 -- A good script is run, where nothing outside fails: every other status contradicts what it comes with.
 use Rattle.std.proofs.Common.{◌≡◌, ℕ, ◌<◌, ◌≤◌, Bool, true, false, List, Option, Some, None, unwrap_or, ◌⊎◌, inl, inr, length, sym, ap, ◌∙◌, subst, arith}
-use Rattle.bd_base.specs.Causes.{Rose}
 use Rattle.bd_base.specs.Shelf.{Told, text}
 use Rattle.bd_base.specs.declared.text_err.Limit.{Limit}
 use Rattle.bd_base.specs.declared.text_err.Limit.TheVariants as limit
@@ -17,9 +16,9 @@ use Rattle.bd_top.specs.declared.record.RunRecord.{RunRecord}
 use Rattle.bd_top.specs.declared.status.File.TheVariants as file
 use Rattle.bd_top.specs.declared.status.Status.{Status}
 use Rattle.bd_top.specs.declared.status.Status.TheVariants as status
-use Rattle.bd_top.specs.Prepared.{Counts, WasRead, IsToldAs, IsTextRefusal, IsNamedRefusal, IsRefusal, IsUnread, IsLong, IsBroken, IsOver, IsNoScript, IsUnsoundStart, HasUnsoundStart, IsReadyText, start_of}
+use Rattle.bd_top.specs.Prepared.{Counts, WasRead, IsToldAs, IsTextRefusal, IsNamedRefusal, IsRefusal, IsUnread, IsLong, HasUnsoundStart, IsReadyText, start_of}
 use Rattle.bd_top.specs.Words.{script_named}
-use Rattle.bd_top.specs.Run.{Ends, OfRun, IsWriteFault, IsRefused, IsGood, IsFaultless, IsDoneOrNoMemory}
+use Rattle.bd_top.specs.Run.{Ends, OfRun, IsWriteFault, IsGood, IsFaultless, IsDoneOrNoMemory}
 use Rattle.bd_top.specs.Taken.{Taken, HasFailed}
 
 differs : {A : Type 0} (o : Option A) (a : A) → o ≡ None → o ≡ Some a → ⊥

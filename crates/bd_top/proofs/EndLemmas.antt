@@ -12,7 +12,6 @@ use Rattle.plan_core.specs.Law.{OpensOn, IsLawful}
 use Rattle.plan_core.specs.declared.offer.Offer.{Offer}
 use Rattle.plan_core.specs.declared.refusal.Refusal.{Refusal}
 use Rattle.script_text.specs.declared.script.Script.{Script}
-use Rattle.bd_top.specs.declared.record.End.{End}
 use Rattle.bd_top.specs.declared.record.End.TheVariants as end
 use Rattle.bd_top.specs.declared.record.RunRecord.{RunRecord}
 use Rattle.bd_top.specs.declared.replay.Stop.{Stop}
@@ -21,8 +20,8 @@ use Rattle.bd_top.specs.declared.status.Status.{Status}
 use Rattle.bd_top.specs.declared.status.Status.TheVariants as status
 use Rattle.bd_top.specs.Replay.{Makes, Puts, Follows, FollowsPart, FollowsSo, IsCause, betters_of}
 use Rattle.bd_top.specs.Prepared.{Counts, IsReady}
-use Rattle.bd_top.specs.Run.{Ends, end_of, record_of, opening_of, IsRecorded, IsRunOf, Replays, Finishes, status_of}
-use Rattle.bd_top.specs.Taken.{Taken, IsSilent, Receives, ReceivesPart, HasFailed}
+use Rattle.bd_top.specs.Run.{Ends, record_of, opening_of, IsRecorded, IsRunOf, Replays, Finishes, status_of}
+use Rattle.bd_top.specs.Taken.{Taken, Receives, ReceivesPart, HasFailed}
 use Rattle.bd_top.specs.Texts.{summary_of, closing_by, printed_of, noted_of, better_texts, reply_texts}
 use Rattle.bd_top.proofs.ReplayLemmas.{rose_before}
 

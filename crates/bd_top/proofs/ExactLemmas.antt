@@ -1,16 +1,12 @@
 -- Each status that the words and the texts decide comes exactly where its cause stands: a text has one of them.
-use Rattle.std.proofs.Common.{◌≡◌, ◌↔◌, ◌⊎◌, inl, inr, ℕ, List, Option, Some, None, Result, Ok, Err, refl, sym, ap, ◌∙◌, subst, unwrap_or}
+use Rattle.std.proofs.Common.{◌≡◌, ◌⊎◌, inl, inr, ℕ, List, Option, Some, None, Result, Ok, Err, refl, sym, ap, ◌∙◌, subst}
 use Rattle.bd_base.specs.Shelf.{Told, text}
 use Rattle.bd_base.specs.declared.text_err.Cause.{Cause}
 use Rattle.bd_task.specs.Valid.{Break, IsValid, first_break, step_lacks, goal_lacks}
-use Rattle.bd_tree.specs.declared.node.Node.{Node}
-use Rattle.bd_tree.specs.Chain.{chain_of}
-use Rattle.bd_links.specs.Sound.{IsSound}
 use Rattle.seq_check.specs.declared.judging.Broken.{Broken}
 use Rattle.seq_check.specs.declared.judging.Broken.TheVariants as broken
 use Rattle.script_text.specs.declared.script.Script.{Script}
 use Rattle.script_text.specs.Lines.{worded}
-use Rattle.script_text.specs.Spells.{SpellsScript}
 use Rattle.script_text.specs.Whole.{script_at}
 use Rattle.script_text.proofs.SpellsLemmas.{one_spelled}
 use Rattle.bd_top.specs.declared.record.RunRecord.{RunRecord}
@@ -18,9 +14,9 @@ use Rattle.bd_top.specs.declared.status.File.{File}
 use Rattle.bd_top.specs.declared.status.File.TheVariants as file
 use Rattle.bd_top.specs.declared.status.Status.{Status}
 use Rattle.bd_top.specs.declared.status.Status.TheVariants as status
-use Rattle.bd_top.specs.Prepared.{Counts, Names, WasRead, IsToldAs, IsReadyText, IsTextRefusal, IsNamedRefusal, IsBroken, IsNoScript, IsUnsoundStart}
+use Rattle.bd_top.specs.Prepared.{Counts, Names, WasRead, IsToldAs, IsReadyText, IsTextRefusal, IsBroken, IsNoScript, IsUnsoundStart}
 use Rattle.bd_top.specs.Words.{script_named}
-use Rattle.bd_top.specs.Run.{Ends, OfRun, IsDone, IsRefused, IsDecided, IsExact, IsNamedText, IsRunText, IsRefusedText}
+use Rattle.bd_top.specs.Run.{Ends, OfRun, IsDone, IsDecided, IsExact, IsNamedText}
 use Rattle.bd_top.specs.Taken.{Taken}
 use Rattle.bd_top.proofs.CompleteLemmas.{no_ready_refusal}
 

@@ -1,5 +1,5 @@
 -- What the text of a name leads to, from what was read.
-use Rattle.std.proofs.Common.{◌≡◌, ℕ, ◌≤◌, Bool, true, false, cond, List, length, Option, Some, None, Ok, Vec, sym, ap, ◌∙◌, subst, arith}
+use Rattle.std.proofs.Common.{◌≡◌, ℕ, ◌≤◌, Bool, true, false, cond, List, length, Option, Some, None, Ok, Vec, sym, ap, ◌∙◌, arith}
 use Rattle.std.specs.declared.alloc.Global.{Global}
 use Rattle.bd_base.specs.Shelf.{Told, untold, absent, text, Reads}
 use Rattle.bd_base.specs.declared.text_err.Limit.{Limit}

@@ -1,5 +1,5 @@
 -- The steps of a replay, one by one and together.
-use Rattle.std.proofs.Common.{◌≡◌, ◌⊎◌, inl, inr, ℕ, zero, suc, ◌+◌, ◌<◌, ◌≤◌, List, [], ◌∷◌, ◌++◌, length, take, get_or, Option, Some, None, Result, Ok, Err, IfErr, IsErrAnd, refl, sym, ap, ◌∙◌, subst, append_assoc, length-append, arith}
+use Rattle.std.proofs.Common.{◌≡◌, inl, inr, ℕ, ◌+◌, ◌<◌, ◌≤◌, List, [], ◌∷◌, ◌++◌, length, get_or, Option, Result, Ok, Err, IfErr, IsErrAnd, refl, sym, ap, ◌∙◌, subst, append_assoc, length-append, arith}
 use Rattle.std.proofs.lemmas.List.{append-nil}
 use Rattle.bd_base.specs.Causes.{Rose, TakesPart, appended}
 use Rattle.bd_base.proofs.PutLemmas.{appended-nil, appended-append, TakesPart-after}
@@ -13,7 +13,7 @@ use Rattle.plan_core.specs.declared.refusal.Refusal.{Refusal}
 use Rattle.plan_core.specs.declared.refusal.Refusal.TheVariants as refusal
 use Rattle.bd_top.specs.declared.replay.Stop.{Stop}
 use Rattle.bd_top.specs.declared.replay.Stop.TheVariants.{WriteFault, NoMemory}
-use Rattle.bd_top.specs.Taken.{Taken, IsSilent, Receives, ReceivesPart, HasFailed}
+use Rattle.bd_top.specs.Taken.{Taken, IsSilent}
 use Rattle.bd_top.specs.Texts.{entry_text, better_texts, reply_line, reply_texts}
 use Rattle.bd_top.specs.Replay.{IsTold, Makes, IsMade, IsUnmade, MakesOne, Puts, Follows, FollowsPart, FollowsSo, IsCause, betters_of}
 use Rattle.bd_top.proofs.TextLemmas.{better_texts-more, reply_texts-more}

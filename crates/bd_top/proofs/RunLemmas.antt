@@ -1,5 +1,5 @@
 -- A core may begin on the tree that a script starts from, and finds no fault in it.
-use Rattle.std.proofs.Common.{◌≡◌, ℕ, ◌<◌, ◌≤◌, true, List, Option, Some, None, Err, All, length, unwrap_or, sym, ap, ◌∙◌, subst, arith}
+use Rattle.std.proofs.Common.{◌≡◌, ℕ, ◌<◌, ◌≤◌, List, Option, Some, None, Err, All, length, unwrap_or, sym, ap, ◌∙◌, subst, arith}
 use Rattle.std.proofs.lemmas.List.Elements.{recursion_from_All}
 use Rattle.bd_task.specs.TaskView.{TaskView}
 use Rattle.bd_task.specs.Valid.{IsValid}
@@ -10,7 +10,7 @@ use Rattle.bd_tree.proofs.ChainLemmas.{chain_well_formed, chain_nodes, chain_ste
 use Rattle.bd_tree.proofs.DecidingLemmas.{lin_length}
 use Rattle.bd_tree.proofs.ListedLemmas.{listed_linearises}
 use Rattle.bd_links.specs.declared.parts.Fault.{Fault}
-use Rattle.bd_links.specs.Sound.{first_fault, are_below, IsSound}
+use Rattle.bd_links.specs.Sound.{first_fault, IsSound}
 use Rattle.bd_links.proofs.ChainLaw.{chain_law}
 use Rattle.bd_links.proofs.Faultless.{none_where_sound}
 use Rattle.bd_links.proofs.InRange.{chain_below}
@@ -20,7 +20,7 @@ use Rattle.plan_core.specs.declared.judge.BeginErr.{BeginErr}
 use Rattle.plan_core.specs.declared.judge.BeginErr.TheVariants.{Unsound}
 use Rattle.script_text.specs.Range.{StartsBy, StartsWell}
 use Rattle.script_text.specs.declared.script.Script.{Script}
-use Rattle.bd_top.specs.Prepared.{IsBounded, IsRunnable, start_of}
+use Rattle.bd_top.specs.Prepared.{IsRunnable, start_of}
 
 -- a start tree has as many steps as the plan that it lists
 steps_listed : (root : Node) (actions bytes : ℕ) (plan : List ℕ) → StartsWell actions bytes plan root → steps_of root ≡ length plan

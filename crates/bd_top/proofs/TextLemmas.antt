@@ -1,10 +1,9 @@
 -- Texts of lists that are put together.
-use Rattle.std.proofs.Common.{◌≡◌, ℕ, ◌+◌, List, [], ◌∷◌, ◌++◌, length, Option, Some, None, Result, Ok, Err, slice_get, refl, sym, ap, ◌∙◌, append_assoc, add-zero, arith}
+use Rattle.std.proofs.Common.{◌≡◌, ℕ, ◌+◌, List, [], ◌∷◌, ◌++◌, length, Result, Ok, Err, slice_get, refl, sym, ap, ◌∙◌, append_assoc, add-zero, arith}
 use Rattle.bd_task.specs.TaskView.{TaskView}
-use Rattle.plan_core.specs.Core.{CoreView, State, applied, replay, opened, state_of, accepted}
+use Rattle.plan_core.specs.Core.{State, applied, replay}
 use Rattle.plan_core.specs.declared.offer.Offer.{Offer}
 use Rattle.plan_core.specs.declared.refusal.Refusal.{Refusal}
-use Rattle.bd_top.specs.Replay.{betters_of}
 use Rattle.bd_top.specs.Texts.{shown, name_by, newline, plan_lines, entry_text, better_texts, reply_line, reply_texts}
 
 pub plan_lines-append : (task : TaskView) (xs ys : List ℕ) → plan_lines task (xs ++ ys) ≡ plan_lines task xs ++ plan_lines task ys

@@ -1,6 +1,5 @@
 -- Why a text couldn't be read, from what a shelf's read ensures.
-use Rattle.std.proofs.Common.{◌≡◌, ℕ, Bool, true, false, List, Result, Err, Vec, subst}
-use Rattle.std.specs.declared.alloc.Global.{Global}
+use Rattle.std.proofs.Common.{◌≡◌, ℕ, true, false, Err, subst}
 use Rattle.bd_base.specs.Shelf.{Told, untold, absent, text, Reads}
 use Rattle.bd_base.specs.declared.shelf.ShelfErr.{ShelfErr}
 use Rattle.bd_base.specs.declared.shelf.ShelfErr.TheVariants.{Missing, Failed}

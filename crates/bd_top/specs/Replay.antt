@@ -1,5 +1,5 @@
 -- How the offers of a script are made one by one, and what is put for them.
-use Rattle.std.specs.Prelude.{◌≡◌, ◌⊎◌, ℕ, ◌≤◌, List, [], ◌∷◌, ◌++◌, length, Result, Ok, Err}
+use Rattle.std.specs.Prelude.{◌≡◌, ◌⊎◌, ℕ, List, [], ◌∷◌, ◌++◌, length, Result, Ok, Err}
 use Rattle.plan_core.specs.Core.{CoreView, opened}
 use Rattle.plan_core.specs.Law.{after_reply}
 use Rattle.plan_core.specs.Replies.{Replies, TellsFact}

@@ -1,4 +1,5 @@
 ghost use Rattle.std.specs.Prelude.{◌≡◌, length};
+ghost use Rattle.plan_core.specs.Law.{IsPrintable};
 
 use crate::{End, RunRecord, better_text, reply_text, run_alone, summary_text};
 use bd_base::{FactSet, MemShelf, MemSink, NoMemory, Text};
@@ -22,7 +23,10 @@ fn words(alloc: Global) -> Result<Vec<String>, NoMemory> {
 }
 
 // A caller who has a record may call each text on it.
-fn are_texts(alloc: Global, run: &RunRecord) -> Result<bool, NoMemory> {
+fn are_texts(alloc: Global, run: &RunRecord) -> Result<bool, NoMemory>
+    requires start { IsPrintable run.now.task run.now.start }
+    requires tree { IsPrintable run.now.task run.now.tree }
+{
     let better = better_text(alloc, &run.task, 1, &run.tree)?;
     let summary = summary_text(alloc, run)?;
     Ok(
@@ -42,10 +46,14 @@ fn a_record_has_its_run(rt: HostRuntime) -> Result<(), Fail> {
     let words = words(alloc)?;
     let ended = run_alone(alloc, &words, &mut shelf, &mut out, &mut notes);
     assert_eq!(rt; ended.status.number(), 0);
-    let run = ended.run.ok_or("no run")?;
-    assert!(rt; run.end == Some(End::Script));
-    assert!(rt; run.history.len() == 1 && run.replies.len() == 2);
-    assert!(rt; are_texts(alloc, &run)?);
+    match &ended.run {
+        Some(run) => {
+            assert!(rt; run.end == Some(End::Script));
+            assert!(rt; run.history.len() == 1 && run.replies.len() == 2);
+            assert!(rt; are_texts(alloc, run)?);
+        }
+        None => assert!(rt; false),
+    }
     Ok(())
 }
 

@@ -1,5 +1,4 @@
-use Rattle.std.proofs.Common.{◌≡◌, ℕ, ◌+◌, ◌++◌, List, [], map, drop, sym, ap, ◌∙◌, append_assoc, rules}
-use Rattle.std.proofs.lemmas.List.{append-nil}
+use Rattle.std.proofs.Common.{◌≡◌, ℕ, ◌+◌, ◌++◌, List, map, drop, sym, ap, ◌∙◌, append_assoc}
 use Rattle.bd_tree.specs.declared.node.Node.{Node}
 use Rattle.bd_tree.specs.Tree.{listed_of, joined}
 use Rattle.bd_links.specs.Sound.{are_below}
