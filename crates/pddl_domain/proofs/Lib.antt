@@ -1,0 +1,13 @@
+mod HeadLemmas
+mod TypeLemmas
+mod RowLemmas
+mod StateLemmas
+mod DeclaredLemmas
+mod SchemaLemmas
+mod TableLemmas
+mod ContractLemmas
+mod NewLemmas
+mod ParentLemmas
+mod EndLemmas
+mod ForestLemmas
+mod LevelLemmas
