@@ -1,5 +1,0 @@
-pub mod EntryLemmas
-pub mod ListLemmas
-pub mod SetLemmas
-pub mod ClosedLemmas
-pub mod WayLemmas

@@ -1,5 +1,0 @@
-pub mod Passed
-pub mod Entries
-pub mod Ways
-pub mod Order
-pub mod Closed
