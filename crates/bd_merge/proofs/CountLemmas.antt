@@ -1,11 +1,13 @@
 -- Sums over kids that are parted, and how many positions and nodes there are.
 use Rattle.std.proofs.Common.{◌≡◌, ℕ, ◌+◌, ◌<◌, ◌≤◌, ◌^◌, Bool, true, false, not, ◌&&◌, cond, List, [], ◌∷◌, ◌++◌, length, map, filter, drop, get_or, refl, sym, ap, ◌∙◌, length-append, append_assoc, arith}
-use Rattle.std.specs.List.{enumerate_from}
+use Rattle.std.specs.List.{enumerate_from, list_all}
+use Rattle.std.proofs.lemmas.Bool.{and_parts}
 use Rattle.std.proofs.lemmas.List.{length-map, append-nil, drop_all, drop_more}
 use Rattle.std.proofs.lemmas.List.FromFn.{length-enumerate_from}
 use Rattle.bd_tree.specs.declared.node.Node.{Node, Block}
 use Rattle.bd_tree.specs.Convex.{is_member}
 use Rattle.bd_tree.specs.Tree.{id_of, nodes_of, total}
+use Rattle.bd_tree.specs.WellFormed.{has_orders}
 use Rattle.bd_tree.proofs.NodeLemmas.{by_node, nodes_of-Step, nodes_of-Block}
 use Rattle.bd_merge.specs.Merged.{goes_first, is_front, is_back, fronts, backs, merged_places}
 use Rattle.bd_merge.specs.declared.merging.Place.{Place}
@@ -92,6 +94,10 @@ module _ (kids : List Node) (i : ℕ) (k : Node) (lt : i < length kids) (is : k 
 
   pub one_less_left : (m : ℕ) → total (map nodes_of (drop i kids)) + m < 2 ^ 32 → total (map nodes_of (drop (i + 1) kids)) + m < 2 ^ 32
   one_less_left m few = omega (arith, few, ap (λ (z : List Node). total (map nodes_of z)) first_left)
+
+  pub rest_ordered : list_all (λ b. b) (map has_orders (drop i kids)) ≡ true → list_all (λ b. b) (map has_orders (drop (i + 1) kids)) ≡ true
+  rest_ordered all =
+      (and_parts (has_orders k) (list_all (λ b. b) (map has_orders (drop (i + 1) kids))) (sym (ap (λ (z : List Node). list_all (λ b. b) (map has_orders z)) first_left) ∙ all)).1
 
 pub all_made : (kids copies all : List Node) (f : Node → Node) (i : ℕ) → length kids ≤ i → copies ++ map f (drop i kids) ≡ all → copies ≡ all
 all_made kids copies all f i le so_far = sym (append-nil copies) ∙ ap (λ (z : List Node). copies ++ map f z) (sym (drop_all i kids le)) ∙ so_far

@@ -3,9 +3,10 @@ pub mod IdLemmas
 pub mod KeptLemmas
 pub mod MergeLemmas
 pub mod PartLemmas
+pub mod RiseLemmas
 pub mod RowLemmas
-pub mod RunLemmas
 pub mod StandLemmas
+pub mod StartLemmas
 pub mod TouchLemmas
 pub mod TurnLemmas
 pub mod WalkLemmas

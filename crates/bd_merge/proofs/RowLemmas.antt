@@ -1,12 +1,11 @@
 -- Pairs that pass a test, row by row.
-use Rattle.std.proofs.Common.{◌≡◌, ℕ, zero, suc, ◌+◌, ◌-◌, ◌<◌, ◌≤◌, Bool, true, false, ◌&&◌, ◌||◌, ltb, cond, List, [], ◌∷◌, ◌++◌, length, map, filter, Option, Some, None, slice_get, refl, sym, ap, ◌∙◌, inl, inr, append_assoc, arith}
-use Rattle.std.proofs.lemmas.Bool.{eq-eqb, ne_eqb, cases_eq, cases_lt, lt-ltb, le-ltb}
+use Rattle.std.proofs.Common.{◌≡◌, ℕ, zero, suc, ◌+◌, ◌-◌, ◌<◌, ◌≤◌, Bool, true, false, ◌&&◌, ltb, cond, List, ◌∷◌, ◌++◌, length, map, filter, Option, Some, None, slice_get, refl, sym, ap, ◌∙◌, inl, inr, append_assoc, arith}
+use Rattle.std.proofs.lemmas.Bool.{cases_lt, lt-ltb, le-ltb}
 use Rattle.std.proofs.lemmas.List.Elements.{filter-append}
 use Rattle.std.proofs.lemmas.Option.{slice_get_past}
 use Rattle.bd_base.specs.Bits.{upto}
-use Rattle.bd_base.specs.Facts.{IsBelowAll, IsRising, has, insert_fact}
+use Rattle.bd_base.specs.Facts.{IsBelowAll, IsRising, has}
 use Rattle.bd_base.specs.Pairs.{before_each, in_turn}
-use Rattle.bd_base.proofs.FactLemmas.{has-insert_fact}
 use Rattle.bd_base.proofs.MeetLemmas.{filter_by}
 use Rattle.bd_base.proofs.RunLemmas.{has_upto_below, has_upto_in}
 use Rattle.bd_merge.specs.Merged.{are_ordered, is_kept}
@@ -46,13 +45,6 @@ module _ (order : List (ℕ × ℕ)) (places : List Place) where
       nothing : (o : Option Place) → are_ordered order o None ≡ false
       nothing None = refl
       nothing (Some x) = refl
-
-  -- a row that has come to the last position
-  pub row_whole : (a b : ℕ) (row : List ℕ) → length places ≤ b → ((q : ℕ) → has row q ≡ (ltb a q && (ltb q b && passes (a, q)))) → (q : ℕ) → has row q ≡ (ltb a q && passes (a, q))
-  row_whole a b row past so_far q = so_far q ∙ ap (λ z. ltb a q && z) (elim (cases_lt q b) [
-    | inl less ↦ ap (λ z. z && passes (a, q)) (lt-ltb q b less)
-    | inr le ↦ ap (λ z. z && passes (a, q)) (le-ltb q b le) ∙ sym (none_past a q (omega (arith, le)))
-  ])
 
   module _ (a : ℕ) (lt : a < length places) (row : List ℕ) (rising : IsRising row) (holds : (q : ℕ) → has row q ≡ (ltb a q && passes (a, q))) where
     abbrev behind : List ℕ

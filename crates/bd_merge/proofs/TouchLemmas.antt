@@ -3,7 +3,7 @@ use Rattle.std.proofs.Common.{◌≡◌, ℕ, suc, ◌+◌, ◌<◌, ◌≤◌, 
 use Rattle.std.specs.List.{list_any, enumerate_from}
 use Rattle.std.proofs.lemmas.List.{drop_all}
 use Rattle.bd_base.specs.Facts.{has, plus}
-use Rattle.bd_base.specs.Pairs.{is_before, after_of, before_of}
+use Rattle.bd_base.specs.Pairs.{after_of, before_of}
 use Rattle.bd_base.proofs.BeforeLemmas.{has_before}
 use Rattle.bd_base.proofs.FactLemmas.{has-plus}
 use Rattle.bd_base.proofs.RowLemmas.{before_by_row}
@@ -12,7 +12,6 @@ use Rattle.bd_tree.specs.Convex.{is_member}
 use Rattle.bd_tree.specs.Tree.{id_of}
 use Rattle.bd_merge.specs.FrontEnd.{IsTouched, TellsSides, EndsFronts, is_related, is_touched, is_told_first}
 use Rattle.bd_merge.specs.Merged.{goes_first}
-use Rattle.bd_merge.specs.declared.merging.Sides.{Sides}
 use Rattle.bd_merge.specs.declared.merging.Sides.TheVariants.{Below, Touched}
 use Rattle.bd_merge.specs.declared.window.Lean.{Lean}
 use Rattle.bd_merge.specs.declared.window.Lean.TheVariants.{Early, Late}

@@ -2,7 +2,7 @@
 use Rattle.std.proofs.Common.{◌≡◌, ℕ, zero, suc, ◌+◌, ◌-◌, ◌<◌, ◌≤◌, Bool, true, false, not, ◌&&◌, ◌||◌, ltb, cond, List, [], ◌∷◌, ◌++◌, length, map, filter, take, drop, Option, Some, None, slice_get, refl, sym, ap, ◌∙◌, arith}
 use Rattle.std.specs.Option.{is_some}
 use Rattle.std.specs.List.{list_any, list_all, enumerate_from}
-use Rattle.std.proofs.lemmas.Bool.{and_parts, and_from, and_right, ltb-true}
+use Rattle.std.proofs.lemmas.Bool.{and_parts, and_from, and_right, lt-ltb, ltb-true}
 use Rattle.std.proofs.lemmas.List.{length-take, length-drop}
 use Rattle.std.proofs.lemmas.List.Folds.{list_all-append}
 use Rattle.bd_base.specs.Facts.{has}
@@ -15,6 +15,7 @@ use Rattle.bd_tree.proofs.ConvexLemmas.{any_split, none_at}
 use Rattle.bd_tree.proofs.OrderLemmas.{all_weaker, turn_has, total_is_order, not_before}
 use Rattle.bd_merge.specs.FrontEnd.{EndsFronts, IsFrontEnd}
 use Rattle.bd_merge.specs.Merged.{goes_first, fronts, backs, is_front, is_back, merged_places, is_ordered, are_ordered, is_kept, merged_order}
+use Rattle.bd_merge.specs.Starts.{AreListed, is_old_below, stand_in_turn}
 use Rattle.bd_merge.specs.declared.merging.Place.{Place}
 use Rattle.bd_merge.specs.declared.merging.Place.TheVariants.{Front, New, Back}
 use Rattle.bd_merge.specs.declared.window.Lean.{Lean}
@@ -117,14 +118,10 @@ total_where_told window order kids (Some end) is e = is.total
 
 -- what stands in order, each before all later ones
 module _ (order : List (ℕ × ℕ)) where
-  abbrev stand_in_turn : List Place → Bool
-  stand_in_turn [] = true
-  stand_in_turn (p ∷ ps) = list_all (is_ordered order p) ps && stand_in_turn ps
-
-  turn-append : (xs ys : List Place) → stand_in_turn xs ≡ true → stand_in_turn ys ≡ true → list_all (λ x. list_all (is_ordered order x) ys) xs ≡ true → stand_in_turn (xs ++ ys) ≡ true
+  turn-append : (xs ys : List Place) → stand_in_turn order xs ≡ true → stand_in_turn order ys ≡ true → list_all (λ x. list_all (is_ordered order x) ys) xs ≡ true → stand_in_turn order (xs ++ ys) ≡ true
   turn-append [] ys a b c = b
   turn-append (x ∷ xs) ys a b c =
-      let p = and_parts (list_all (is_ordered order x) xs) (stand_in_turn xs) a in
+      let p = and_parts (list_all (is_ordered order x) xs) (stand_in_turn order xs) a in
       let q = and_parts (list_all (is_ordered order x) ys) (list_all (λ x. list_all (is_ordered order x) ys) xs) c in
       and_from _ _ (list_all-append (is_ordered order x) xs ys ∙ and_from _ _ p.0 q.0) (turn-append xs ys p.1 b q.1)
 
@@ -133,11 +130,11 @@ module _ (order : List (ℕ × ℕ)) where
   later_ordered p (q ∷ ps) zero a lt = (and_parts (is_ordered order p q) (list_all (is_ordered order p) ps) a).0
   later_ordered p (q ∷ ps) (suc j) a lt = later_ordered p ps j (and_parts (is_ordered order p q) (list_all (is_ordered order p) ps) a).1 (omega arith)
 
-  two_ordered : (places : List Place) (i j : ℕ) → stand_in_turn places ≡ true → i < j → j < length places → are_ordered order (slice_get places i) (slice_get places j) ≡ true
+  pub two_ordered : (places : List Place) (i j : ℕ) → stand_in_turn order places ≡ true → i < j → j < length places → are_ordered order (slice_get places i) (slice_get places j) ≡ true
   two_ordered [] i j a lt below = absurd (omega arith)
   two_ordered (p ∷ ps) i zero a lt below = absurd (omega arith)
-  two_ordered (p ∷ ps) zero (suc j) a lt below = later_ordered p ps j (and_parts (list_all (is_ordered order p) ps) (stand_in_turn ps) a).0 (omega arith)
-  two_ordered (p ∷ ps) (suc i) (suc j) a lt below = two_ordered ps i j (and_parts (list_all (is_ordered order p) ps) (stand_in_turn ps) a).1 (omega arith) (omega arith)
+  two_ordered (p ∷ ps) zero (suc j) a lt below = later_ordered p ps j (and_parts (list_all (is_ordered order p) ps) (stand_in_turn order ps) a).0 (omega arith)
+  two_ordered (p ∷ ps) (suc i) (suc j) a lt below = two_ordered ps i j (and_parts (list_all (is_ordered order p) ps) (stand_in_turn order ps) a).1 (omega arith) (omega arith)
 
   all_stay : (t : ℕ × ℕ → Bool) (ps : List (ℕ × ℕ)) → list_all t ps ≡ true → filter t ps ≡ ps
   all_stay t [] a = refl
@@ -146,7 +143,7 @@ module _ (order : List (ℕ × ℕ)) where
       ap (λ b. cond b (p ∷ filter t ps) (filter t ps)) parts.0 ∙ ap (λ z. p ∷ z) (all_stay t ps parts.1)
 
   -- then all pairs are kept
-  kept_in_turn : (places : List Place) → stand_in_turn places ≡ true → merged_order order places ≡ total_order (length places)
+  kept_in_turn : (places : List Place) → stand_in_turn order places ≡ true → merged_order order places ≡ total_order (length places)
   kept_in_turn places a =
       let n = length places in
       all_stay (is_kept order places) (total_order n)
@@ -158,7 +155,7 @@ module _ (order : List (ℕ × ℕ)) where
   all_map t f h [] = refl
   all_map t f h (x ∷ xs) = and_from _ _ (h x) (all_map t f h xs)
 
-  news_in_turn : (list : List ℕ) → stand_in_turn (map (λ a. New) list) ≡ true
+  news_in_turn : (list : List ℕ) → stand_in_turn order (map (λ a. New) list) ≡ true
   news_in_turn [] = refl
   news_in_turn (a ∷ list) = and_from _ _ (all_map (is_ordered order New) (λ (a : ℕ). New) (λ a. refl) list) (news_in_turn list)
 
@@ -176,35 +173,73 @@ module _ (order : List (ℕ × ℕ)) where
     side_row i m [] lt le = refl
     side_row i m (k ∷ ks) lt le = row_if (t (m, k)) i (m, k) (filter t (enumerate_from (m + 1) ks)) (up i m lt (omega arith)) (side_row i (m + 1) ks (omega arith) (omega arith))
 
-    turn_if : (b : Bool) (k : ℕ × Node) (ks : List (ℕ × Node)) → list_all (is_ordered order (g k.0)) (map (λ (k : ℕ × Node). g k.0) ks) ≡ true → stand_in_turn (map (λ (k : ℕ × Node). g k.0) ks) ≡ true →
-        stand_in_turn (map (λ (k : ℕ × Node). g k.0) (cond b (k ∷ ks) ks)) ≡ true
+    turn_if : (b : Bool) (k : ℕ × Node) (ks : List (ℕ × Node)) → list_all (is_ordered order (g k.0)) (map (λ (k : ℕ × Node). g k.0) ks) ≡ true → stand_in_turn order (map (λ (k : ℕ × Node). g k.0) ks) ≡ true →
+        stand_in_turn order (map (λ (k : ℕ × Node). g k.0) (cond b (k ∷ ks) ks)) ≡ true
     turn_if true k ks e a = and_from _ _ e a
     turn_if false k ks e a = a
 
-    side_in_turn : (m : ℕ) (kids : List Node) → m + length kids ≤ n → stand_in_turn (side m kids) ≡ true
+    side_in_turn : (m : ℕ) (kids : List Node) → m + length kids ≤ n → stand_in_turn order (side m kids) ≡ true
     side_in_turn m [] le = refl
     side_in_turn m (k ∷ ks) le = turn_if (t (m, k)) (m, k) (filter t (enumerate_from (m + 1) ks)) (side_row m (m + 1) ks (omega arith) (omega arith)) (side_in_turn (m + 1) ks (omega arith))
+
+-- the kids of each side of a merged block rise by their old positions
+module _ (window : Window) (list : List ℕ) (order : List (ℕ × ℕ)) (kids : List Node) where
+  abbrev n : ℕ
+  n = length kids
+
+  abbrev all : List (ℕ × Node)
+  all = enumerate_from 0 kids
+
+  abbrev turn : List (ℕ × ℕ)
+  turn = total_order n
+
+  merged_turn : stand_in_turn turn (merged_places window list order all) ≡ true
+  merged_turn =
+      let fs = fronts window order all in
+      let bs = backs window order all in
+      let fp : List Place = map (λ (k : ℕ × Node). Front k.0) fs in
+      let np : List Place = map (λ (a : ℕ). New) list in
+      let bp : List Place = map (λ (k : ℕ × Node). Back k.0) bs in
+      let up : (i j : ℕ) → i < j → j < n → is_before turn i j ≡ true = total_has n in
+      let front_turn : stand_in_turn turn fp ≡ true = side_in_turn turn (λ i. Front i) n up (is_front window order all) 0 kids (omega arith) in
+      let back_turn : stand_in_turn turn bp ≡ true = side_in_turn turn (λ i. Back i) n up (is_back window order all) 0 kids (omega arith) in
+      let front_new : list_all (λ x. list_all (is_ordered turn x) np) fp ≡ true =
+      all_map turn (λ x. list_all (is_ordered turn x) np) (λ (k : ℕ × Node). Front k.0) (λ k. all_map turn (is_ordered turn (Front k.0)) (λ (a : ℕ). New) (λ a. refl) list) fs in
+      let front_back : list_all (λ x. list_all (is_ordered turn x) bp) fp ≡ true =
+      all_map turn (λ x. list_all (is_ordered turn x) bp) (λ (k : ℕ × Node). Front k.0) (λ k. all_map turn (is_ordered turn (Front k.0)) (λ (k : ℕ × Node). Back k.0) (λ a. refl) bs) fs in
+      let new_back : list_all (λ x. list_all (is_ordered turn x) bp) np ≡ true =
+      all_map turn (λ x. list_all (is_ordered turn x) bp) (λ (a : ℕ). New) (λ a. all_map turn (is_ordered turn New) (λ (k : ℕ × Node). Back k.0) (λ k. refl) bs) list in
+      let ahead : stand_in_turn turn (fp ++ np) ≡ true = turn-append turn fp np front_turn (news_in_turn turn list) front_new in
+      let across : list_all (λ x. list_all (is_ordered turn x) bp) (fp ++ np) ≡ true = list_all-append (λ x. list_all (is_ordered turn x) bp) fp np ∙ and_from _ _ front_back new_back in
+      turn-append turn (fp ++ np) bp ahead back_turn across
+
+  -- kids of one side have positions of the block
+  module _ (g : ℕ → Place) (held : (i : ℕ) → i < n → is_old_below n (g i) ≡ true) (t : ℕ × Node → Bool) where
+    below_if : (b : Bool) (k : ℕ × Node) (ks : List (ℕ × Node)) → is_old_below n (g k.0) ≡ true → list_all (is_old_below n) (map (λ (k : ℕ × Node). g k.0) ks) ≡ true → list_all (is_old_below n) (map (λ (k : ℕ × Node). g k.0) (cond b (k ∷ ks) ks)) ≡ true
+    below_if true k ks e a = and_from _ _ e a
+    below_if false k ks e a = a
+
+    side_below : (m : ℕ) (kids : List Node) → m + length kids ≤ n → list_all (is_old_below n) (map (λ (k : ℕ × Node). g k.0) (filter t (enumerate_from m kids))) ≡ true
+    side_below m [] le = refl
+    side_below m (k ∷ ks) le = below_if (t (m, k)) (m, k) (filter t (enumerate_from (m + 1) ks)) (held m (omega arith)) (side_below (m + 1) ks (omega arith))
+
+  merged_below : list_all (is_old_below n) (merged_places window list order all) ≡ true
+  merged_below =
+      let fp : List Place = map (λ (k : ℕ × Node). Front k.0) (fronts window order all) in
+      let np : List Place = map (λ (a : ℕ). New) list in
+      let bp : List Place = map (λ (k : ℕ × Node). Back k.0) (backs window order all) in
+      list_all-append (is_old_below n) (fp ++ np) bp
+      ∙ and_from _ _
+      (list_all-append (is_old_below n) fp np
+      ∙ and_from _ _ (side_below (λ i. Front i) (λ i lt. lt-ltb i n lt) (is_front window order all) 0 kids (omega arith)) (all_map turn (is_old_below n) (λ (a : ℕ). New) (λ a. refl) list))
+      (side_below (λ i. Back i) (λ i lt. lt-ltb i n lt) (is_back window order all) 0 kids (omega arith))
+
+  pub merged_listed : AreListed n (merged_places window list order all)
+  merged_listed = record { turn = merged_turn; below = merged_below }
 
 -- the new order of a block whose kids are in turn is total
 pub merged_in_turn : (window : Window) (list : List ℕ) (order : List (ℕ × ℕ)) (kids : List Node) → order ≡ total_order (length kids) →
     merged_order order (merged_places window list order (enumerate_from 0 kids)) ≡ total_order (length (merged_places window list order (enumerate_from 0 kids)))
 merged_in_turn window list order kids total =
-    let n = length kids in
-    let all = enumerate_from 0 kids in
-    let fs = fronts window order all in
-    let bs = backs window order all in
-    let fp : List Place = map (λ (k : ℕ × Node). Front k.0) fs in
-    let np : List Place = map (λ (a : ℕ). New) list in
-    let bp : List Place = map (λ (k : ℕ × Node). Back k.0) bs in
-    let up : (i j : ℕ) → i < j → j < n → is_before order i j ≡ true = λ i j lt below. ap (λ z. is_before z i j) total ∙ total_has n i j lt below in
-    let front_turn : stand_in_turn order fp ≡ true = side_in_turn order (λ i. Front i) n up (is_front window order all) 0 kids (omega arith) in
-    let back_turn : stand_in_turn order bp ≡ true = side_in_turn order (λ i. Back i) n up (is_back window order all) 0 kids (omega arith) in
-    let front_new : list_all (λ x. list_all (is_ordered order x) np) fp ≡ true =
-    all_map order (λ x. list_all (is_ordered order x) np) (λ (k : ℕ × Node). Front k.0) (λ k. all_map order (is_ordered order (Front k.0)) (λ (a : ℕ). New) (λ a. refl) list) fs in
-    let front_back : list_all (λ x. list_all (is_ordered order x) bp) fp ≡ true =
-    all_map order (λ x. list_all (is_ordered order x) bp) (λ (k : ℕ × Node). Front k.0) (λ k. all_map order (is_ordered order (Front k.0)) (λ (k : ℕ × Node). Back k.0) (λ a. refl) bs) fs in
-    let new_back : list_all (λ x. list_all (is_ordered order x) bp) np ≡ true =
-    all_map order (λ x. list_all (is_ordered order x) bp) (λ (a : ℕ). New) (λ a. all_map order (is_ordered order New) (λ (k : ℕ × Node). Back k.0) (λ k. refl) bs) list in
-    let ahead : stand_in_turn order (fp ++ np) ≡ true = turn-append order fp np front_turn (news_in_turn order list) front_new in
-    let across : list_all (λ x. list_all (is_ordered order x) bp) (fp ++ np) ≡ true = list_all-append (λ x. list_all (is_ordered order x) bp) fp np ∙ and_from _ _ front_back new_back in
-    kept_in_turn order ((fp ++ np) ++ bp) (turn-append order (fp ++ np) bp ahead back_turn across)
+    let places = merged_places window list order (enumerate_from 0 kids) in
+    kept_in_turn order places (ap (λ z. stand_in_turn z places) total ∙ (merged_listed window list order kids).turn)

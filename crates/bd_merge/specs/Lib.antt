@@ -1,5 +1,5 @@
 pub mod FrontEnd
 pub mod Merged
-pub mod RowOf
 pub mod Stands
+pub mod Starts
 pub mod Walked

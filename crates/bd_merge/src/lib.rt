@@ -11,6 +11,7 @@
 #![tactic(auto)]
 
 mod merging;
+mod ordering;
 mod standing;
 mod window;
 

@@ -1,16 +1,17 @@
-ghost use Rattle.std.specs.Prelude.{◌≡◌, ℕ, ◌+◌, ◌<◌, ◌≤◌, ◌^◌, ◌&&◌, ◌||◌, ◌++◌, nat_lt, length, map, IfOk, IsTrue, OnOk};
+ghost use Rattle.std.specs.Prelude.{◌≡◌, ℕ, ◌+◌, ◌<◌, ◌≤◌, ◌^◌, ◌||◌, ◌++◌, true, length, map, IfOk, OnOk};
 ghost use Rattle.std.specs.List.{enumerate_from};
 ghost use Rattle.bd_base.specs.Facts.{has};
-ghost use Rattle.bd_base.specs.Pairs.{total_order};
 ghost use Rattle.bd_tree.specs.Chain.{steps_from};
+ghost use Rattle.bd_tree.specs.Order.{is_order};
+ghost use Rattle.bd_tree.specs.WellFormed.{has_orders};
 ghost use Rattle.bd_tree.specs.Tree.{id_of, ids_of, greatest, nodes_of, steps_of, total};
 ghost use Rattle.bd_merge.specs.Stands.{Stands};
 ghost use Rattle.bd_merge.specs.FrontEnd.{IsFrontEnd, IsTouched, TellsSides, is_related, is_told_first};
-ghost use Rattle.bd_merge.specs.RowOf.{IsRowAfter, is_in_run, is_ordered_by};
-ghost use Rattle.bd_merge.specs.Merged.{goes_first, is_front, is_back, fronts, backs, is_kept, merged_order, merged_block, merged, Exchanges};
+ghost use Rattle.bd_merge.specs.Merged.{goes_first, is_front, is_back, fronts, backs, merged_block, merged, Exchanges};
 
+use crate::ordering::new_order;
 use crate::{Found, Lean, Window};
-use bd_base::{ActionId, FromItems, Items, NoMemory, NodeId, OwnedRow, PairList, Row};
+use bd_base::{ActionId, FromItems, Items, NoMemory, NodeId, OwnedRow, PairList};
 use bd_tree::{Members, Node, Tree, span_of};
 use std::alloc::Global;
 
@@ -45,12 +46,22 @@ pub fn merged(
     Ok(Tree::of(new_node(alloc, window, list, next, tree.root())?))
 }
 
+// Whether each position is before the next. An order that isn't total lacks such a pair.
+fn has_neighbours(order: &PairList, count: u32) -> bool {
+    for j in 1..count {
+        if !order.has(j - 1, j) {
+            return false;
+        }
+    }
+    true
+}
+
 // Where each kid is before all later ones, the position that the kids in front of the window stand below.
 fn front_end(window: &Window, order: &PairList, kids: &[Node]) -> Option<usize>
     requires { length kids.now < 2 ^ 32 }
     ensures { IsFrontEnd window.now order.now kids.now result }
 {
-    if !order.is_total(kids.len()) {
+    if !has_neighbours(order, kids.len() as u32) || !order.is_total(kids.len()) {
         return None;
     }
     let span = span_of(kids, &Members::of_nodes(window.kids.as_slice()));
@@ -229,92 +240,6 @@ fn put_steps(
     Ok(())
 }
 
-// The old positions that a kid is before; of a new step any row will do.
-fn row_after(order: &PairList, first: Place) -> Row<'_>
-    ensures { IsRowAfter order.now first result }
-{
-    match first {
-        Place::Front(i) => order.after(i),
-        Place::Back(i) => order.after(i),
-        Place::New => order.after(0),
-    }
-}
-
-// Whether what stands earlier in the new listing is before what stands later, told by the row of the earlier.
-fn is_before_later(after: &Row<'_>, first: Place, second: Place) -> bool
-    ensures { result ≡ is_ordered_by after.now first second }
-{
-    match first {
-        Place::Front(_) => match second {
-            Place::Front(j) => after.has(j),
-            _ => true,
-        },
-        Place::New => match second {
-            Place::Front(_) => false,
-            _ => true,
-        },
-        Place::Back(_) => match second {
-            Place::Back(j) => after.has(j),
-            _ => false,
-        },
-    }
-}
-
-// Adds the positions from one on and below another.
-fn put_run(row: &mut OwnedRow, from: u32, to: u32) -> Result<(), NoMemory>
-    requires { from ≤ to }
-    ensures { OnOk result ((q : ℕ) → has row.new q ≡ (has row.old q || is_in_run from to q)) }
-{
-    if from < to {
-        row.put_run(from, to)?;
-    }
-    Ok(())
-}
-
-// The later positions that what stands at a position is before. They are put a run at a time.
-fn row_of(alloc: Global, order: &PairList, places: &[Place], a: u32) -> Result<OwnedRow, NoMemory>
-    requires few { length places.now < 2 ^ 32 }
-    requires within { a < length places.now }
-    ensures { IfOk result (λ row. (q : ℕ) → has row q ≡ (nat_lt a q && is_kept order.now places.now (a, q))) }
-{
-    let count = places.len() as u32;
-    let first = places[a as usize];
-    let after = row_after(order, first);
-    let mut row = OwnedRow::new(alloc);
-    let mut from = a + 1;
-    for b in a + 1..count {
-        if !is_before_later(&after, first, places[b as usize]) {
-            put_run(&mut row, from, b)?;
-            from = b + 1;
-        }
-    }
-    put_run(&mut row, from, count)?;
-    Ok(row)
-}
-
-// The new order, row by row; where it is known that every pair is kept, none is asked for.
-fn new_order(
-    alloc: Global,
-    order: &PairList,
-    places: &[Place],
-    keeps_all: bool,
-) -> Result<PairList, NoMemory>
-    requires few { length places.now < 2 ^ 32 }
-    requires all { IsTrue keeps_all → merged_order order.now places.now ≡ total_order (length places.now) }
-    ensures { IfOk result (λ o. o ≡ merged_order order.now places.now) }
-{
-    let count = places.len() as u32;
-    if keeps_all {
-        return PairList::total(alloc, count);
-    }
-    let mut made = PairList::new(alloc);
-    for a in 0..count {
-        let row = row_of(alloc, order, places, a)?;
-        made.put_row(alloc, a, &row.row())?;
-    }
-    Ok(made)
-}
-
 // The window's block, where it has these kids and this order.
 fn new_block(
     alloc: Global,
@@ -326,6 +251,7 @@ fn new_block(
 ) -> Result<Node, NoMemory>
     requires room { next < 2 ^ 63 }
     requires few { length kids.now + length list.now < 2 ^ 32 }
+    requires order { is_order (length kids.now) order.now ≡ true }
     ensures { IfOk result (λ n. n ≡ merged_block window.now list.now next window.now.block kids.now order.now) }
 {
     let mut copies = Vec::new(alloc);
@@ -335,7 +261,7 @@ fn new_block(
     put_fronts(alloc, window, order, kids, &sides, &mut copies, &mut places)?;
     put_steps(list, next, &mut copies, &mut places)?;
     put_backs(alloc, window, order, kids, &sides, &mut copies, &mut places)?;
-    let order = new_order(alloc, order, &places, end.is_some())?;
+    let order = new_order(alloc, order, &places, kids.len() as u32, end.is_some())?;
     Ok(Node::Block {
         id: window.block,
         kids: Items::of(copies),
@@ -353,6 +279,7 @@ fn new_node(
 ) -> Result<Node, NoMemory>
     requires room { next < 2 ^ 63 }
     requires few { nodes_of node.now + length list.now < 2 ^ 32 }
+    requires ordered { has_orders node.now ≡ true }
     ensures { IfOk result (λ n. n ≡ merged node.now window.now list.now next) }
 {
     match node {

@@ -3,8 +3,9 @@ use Rattle.std.specs.List.{enumerate_from}
 use Rattle.std.specs.Option.{is_some}
 use Rattle.bd_base.specs.Pairs.{total_order}
 use Rattle.bd_merge.proofs.CountLemmas.{few_places}
-use Rattle.bd_merge.proofs.TurnLemmas.{merged_in_turn, total_where_told}
+use Rattle.bd_merge.proofs.TurnLemmas.{merged_in_turn, merged_listed, total_where_told}
 use Rattle.bd_merge.specs.Merged.{fronts, backs, merged_places, merged_order}
+use Rattle.bd_merge.specs.Starts.{AreListed}
 use Rattle.bd_merge.specs.declared.merging.Place.{Place}
 use Rattle.bd_merge.specs.declared.merging.Place.TheVariants.{Front, New, Back}
 use Rattle.bd_merge.proofs.merging.new_block.Goals as goal
@@ -24,6 +25,8 @@ new_order-requires c =
     ∙ ap (λ (z : List Place). z ++ behind) (c.in_ok-put_steps.ensures.places ∙ ap (λ (z : List Place). z ++ news) (c.in_ok-put_fronts.ensures.places ∙ ap (λ (z : List Place). z ++ ahead) c.new-places.ensures.items)) in
     record {
       few = omega (arith, few_places window c.args.list.now order kids, ap (λ (z : List Place). length z) places, c.requires.few);
+      listed = subst (AreListed (length kids)) (sym places) (merged_listed window c.args.list.now order kids);
+      order = c.requires.order;
       all = λ told.
           let known : is_some c.front_end-end.result ≡ true = sym c.is_some.ensures ∙ told in
           let total : order ≡ total_order (length kids) = total_where_told window order kids c.front_end-end.result c.front_end-end.ensures known in

@@ -1,7 +1,7 @@
 use Rattle.std.proofs.Common.{◌++◌, List, ℕ, map, ap, ◌∙◌, arith}
 use Rattle.bd_merge.specs.Merged.{merged_order}
 use Rattle.bd_merge.proofs.RowLemmas.{one_row}
-use Rattle.bd_merge.proofs.merging.new_order.Goals as goal
+use Rattle.bd_merge.proofs.ordering.new_order.Goals as goal
 
 pub loop-a-preserved : goal.loop-a-preserved
 loop-a-preserved c =
