@@ -1,0 +1,12 @@
+pub mod Outline
+pub mod Types
+pub mod Levels
+pub mod Heads
+pub mod Conditions
+pub mod Params
+pub mod Effects
+pub mod Domain
+pub mod Actions
+pub mod Whole
+pub mod Sight
+pub mod Spells

@@ -1,0 +1,10 @@
+pub mod Laws
+pub mod NameLemmas
+pub mod TypedLemmas
+pub mod ThingLemmas
+pub mod PartLemmas
+pub mod RangeLemmas
+pub mod NumberLemmas
+pub mod TableLemmas
+pub mod SeenLemmas
+pub mod HeadedLemmas

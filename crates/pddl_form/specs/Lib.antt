@@ -1,0 +1,13 @@
+pub mod Fault
+pub mod Names
+pub mod Trees
+pub mod Groups
+pub mod Reserved
+pub mod Titles
+pub mod Things
+pub mod Terms
+pub mod Number
+pub mod Parts
+pub mod Sight
+pub mod Spells
+pub mod Contract
