@@ -1,0 +1,16 @@
+pub mod AllowedLemmas
+pub mod AtomLemmas
+pub mod CallLemmas
+pub mod ChoiceLemmas
+pub mod ExtendLemmas
+pub mod FittingLemmas
+pub mod IndexLemmas
+pub mod JoinLemmas
+pub mod MemberLemmas
+pub mod MentionLemmas
+pub mod OfferLemmas
+pub mod PremiseLemmas
+pub mod PriceLemmas
+pub mod TableLemmas
+pub mod TaskLemmas
+pub mod WorldLemmas

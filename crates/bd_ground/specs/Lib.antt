@@ -1,0 +1,12 @@
+pub mod Atoms
+pub mod Instances
+pub mod Task
+pub mod Calls
+pub mod Join
+pub mod Collect
+pub mod Sight
+pub mod Offers
+pub mod Mention
+pub mod Grounding
+pub mod Prices
+pub mod Index

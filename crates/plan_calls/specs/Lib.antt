@@ -1,0 +1,5 @@
+pub mod Places
+pub mod Judging
+pub mod Finding
+pub mod Agreement
+pub mod Listing
