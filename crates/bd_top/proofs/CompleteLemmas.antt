@@ -16,9 +16,11 @@ use Rattle.bd_top.specs.declared.record.RunRecord.{RunRecord}
 use Rattle.bd_top.specs.declared.status.File.TheVariants as file
 use Rattle.bd_top.specs.declared.status.Status.{Status}
 use Rattle.bd_top.specs.declared.status.Status.TheVariants as status
-use Rattle.bd_top.specs.Prepared.{Counts, WasRead, IsToldAs, IsTextRefusal, IsNamedRefusal, IsRefusal, IsUnread, IsLong, HasUnsoundStart, IsReadyText, start_of}
-use Rattle.bd_top.specs.Words.{script_named}
-use Rattle.bd_top.specs.Run.{Ends, OfRun, IsWriteFault, IsGood, IsFaultless, IsDoneOrNoMemory}
+use Rattle.task_inputs.specs.Reads.{Counts, WasRead, IsToldAs, IsUnread, IsLong}
+use Rattle.bd_top.specs.Prepared.{Names, NamesTexts, IsTextRefusal, IsTextsRefusal, IsNamedRefusal, IsRefusal, HasUnsoundStart, IsReadyText, start_of}
+use Rattle.bd_top.specs.Words.{script_named, texts_named}
+use Rattle.bd_top.proofs.CommandLemmas.{one_command}
+use Rattle.bd_top.specs.Run.{Ends, HasWriteFault, IsGood, IsFaultless, IsDoneOrNoMemory}
 use Rattle.bd_top.specs.Taken.{Taken, HasFailed}
 
 differs : {A : Type 0} (o : Option A) (a : A) → o ≡ None → o ≡ Some a → ⊥
@@ -97,25 +99,26 @@ module _ (words : List (List ℕ)) (tells : List ℕ → Told) (script : Script)
     no_named_refusal status.WriteFault line h = no_read_refusal status.WriteFault line h
     no_named_refusal status.NoMemory line h = no_read_refusal status.NoMemory line h
 
-    of_name : (why : Status) (line name : List ℕ) → script_named words ≡ Some name → IsNamedRefusal name (tells name) c why line → ⊥
-    of_name why line name named h = no_named_refusal why line (subst (λ z. IsNamedRefusal z (tells z) c why line) (named_same _ good.name name good.named named) h)
+    of_name : (why : Status) (line : List ℕ) → Names words (λ name. IsNamedRefusal name (tells name) c why line) ⊎ NamesTexts words (λ names. IsTextsRefusal names tells c why line) → ⊥
+    of_name why line (inl h) = no_named_refusal why line (subst (λ z. IsNamedRefusal z (tells z) c why line) (named_same _ good.name h.name good.named h.named) h.holds)
+    of_name why line (inr h) = one_command words good.name h.names good.named h.named
 
     no_refusal : (why : Status) (line : List ℕ) → IsRefusal words tells c why line → ⊥
     no_refusal status.Usage line h = differs _ good.name h.0 good.named
-    no_refusal status.Done line h = of_name status.Done line h.name h.named h.holds
-    no_refusal (status.PlanInvalid b) line h = of_name (status.PlanInvalid b) line h.name h.named h.holds
-    no_refusal (status.TextRefused f place cause) line h = of_name (status.TextRefused f place cause) line h.name h.named h.holds
-    no_refusal (status.ReadFault n missing) line h = of_name (status.ReadFault n missing) line h.name h.named h.holds
-    no_refusal status.WriteFault line h = of_name status.WriteFault line h.name h.named h.holds
-    no_refusal (status.OverLimit l count) line h = of_name (status.OverLimit l count) line h.name h.named h.holds
-    no_refusal status.NoMemory line h = of_name status.NoMemory line h.name h.named h.holds
+    no_refusal status.Done line h = of_name status.Done line h
+    no_refusal (status.PlanInvalid b) line h = of_name (status.PlanInvalid b) line h
+    no_refusal (status.TextRefused f place cause) line h = of_name (status.TextRefused f place cause) line h
+    no_refusal (status.ReadFault n missing) line h = of_name (status.ReadFault n missing) line h
+    no_refusal status.WriteFault line h = of_name status.WriteFault line h
+    no_refusal (status.OverLimit l count) line h = of_name (status.OverLimit l count) line h
+    no_refusal status.NoMemory line h = of_name status.NoMemory line h
 
     no_failure : (out notes : Taken) → IsFaultless out.faults out.faults_after → IsFaultless notes.faults notes.faults_after → HasFailed out ⊎ HasFailed notes → ⊥
     no_failure out notes quiet still (inl h) = quiet h
     no_failure out notes quiet still (inr h) = still h
 
-    no_fault : (out notes : Taken) (run : Option RunRecord) → IsFaultless out.faults out.faults_after → IsFaultless notes.faults notes.faults_after → OfRun run (IsWriteFault words tells out notes) → ⊥
-    no_fault out notes None quiet still h = h
+    no_fault : (out notes : Taken) (run : Option RunRecord) → IsFaultless out.faults out.faults_after → IsFaultless notes.faults notes.faults_after → HasWriteFault words tells out notes run → ⊥
+    no_fault out notes None quiet still h = quiet h.printed.failed
     no_fault out notes (Some run) quiet still h = no_failure out notes quiet still h.failed
 
     pub complete : (out notes : Taken) (why : Status) (run : Option RunRecord) → IsFaultless out.faults out.faults_after → IsFaultless notes.faults notes.faults_after →

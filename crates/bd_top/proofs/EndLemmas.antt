@@ -19,7 +19,8 @@ use Rattle.bd_top.specs.declared.replay.Stop.TheVariants as stop
 use Rattle.bd_top.specs.declared.status.Status.{Status}
 use Rattle.bd_top.specs.declared.status.Status.TheVariants as status
 use Rattle.bd_top.specs.Replay.{Makes, Puts, Follows, FollowsPart, FollowsSo, IsCause, betters_of}
-use Rattle.bd_top.specs.Prepared.{Counts, IsReady}
+use Rattle.task_inputs.specs.Reads.{Counts}
+use Rattle.bd_top.specs.Prepared.{IsReady}
 use Rattle.bd_top.specs.Run.{Ends, record_of, opening_of, IsRecorded, IsRunOf, Replays, Finishes, status_of}
 use Rattle.bd_top.specs.Taken.{Taken, Receives, ReceivesPart, HasFailed}
 use Rattle.bd_top.specs.Texts.{summary_of, closing_by, printed_of, noted_of, better_texts, reply_texts}

@@ -14,11 +14,14 @@ use Rattle.bd_top.specs.declared.status.File.{File}
 use Rattle.bd_top.specs.declared.status.File.TheVariants as file
 use Rattle.bd_top.specs.declared.status.Status.{Status}
 use Rattle.bd_top.specs.declared.status.Status.TheVariants as status
-use Rattle.bd_top.specs.Prepared.{Counts, Names, WasRead, IsToldAs, IsReadyText, IsTextRefusal, IsBroken, IsNoScript, IsUnsoundStart}
-use Rattle.bd_top.specs.Words.{script_named}
-use Rattle.bd_top.specs.Run.{Ends, OfRun, IsDone, IsDecided, IsExact, IsNamedText}
+use Rattle.task_inputs.specs.Reads.{Counts, WasRead, IsToldAs}
+use Rattle.bd_top.specs.Prepared.{Names, NamesTexts, IsNamedRefusal, IsTextsRefusal, IsReadyText, IsTextRefusal, IsBroken, IsNoScript, IsUnsoundStart}
+use Rattle.bd_top.specs.Words.{script_named, texts_named, TextNames}
+use Rattle.bd_top.specs.Run.{Ends, IsDone, IsChecked, IsAllDone, IsDecided, IsExact, IsExactRun, IsExactCheck, IsNamedText, AreNamedTexts}
 use Rattle.bd_top.specs.Taken.{Taken}
 use Rattle.bd_top.proofs.CompleteLemmas.{no_ready_refusal}
+use Rattle.bd_top.proofs.CommandLemmas.{one_command}
+use Rattle.bd_top.proofs.CheckLemmas.{check_done, check_invalid, check_refused}
 
 -- of one text, all that is refused has one cause
 
@@ -118,28 +121,46 @@ module _ (words : List (List ℕ)) (tells : List ℕ → Told) where
       one_name : (m n : List ℕ) → script_named words ≡ Some m → script_named words ≡ Some n → m ≡ n
       one_name m n e k = cc
 
+  -- the words name no script, or no texts
+  no_script : ((name : List ℕ) → script_named words ≡ Some name → ⊥) → (why : Status) → IsExactRun words tells why
+  no_script never why = record { done = λ t n. absurd (never n.name n.named); invalid = λ t n b. absurd (never n.name n.named); refused = λ t n f place c. absurd (never n.name n.named) }
+
+  no_texts : ((names : TextNames) → texts_named words ≡ Some names → ⊥) → (why : Status) → IsExactCheck words tells why
+  no_texts never why = record { done = λ d p q n. absurd (never n.names n.named); invalid = λ d p q n b. absurd (never n.names n.named); refused = λ d p q n f place c. absurd (never n.names n.named) }
+
+  by_script : (name : List ℕ) → script_named words ≡ Some name → (why : Status) → (why ≡ status.Usage → ⊥) → IsExactRun words tells why → IsExact words tells why
+  by_script name named why not run = record {
+    usage = ((λ e. absurd (not e)), (λ h. absurd (some_none (script_named words) name named h.0)));
+    run = run;
+    check = no_texts (λ names e. one_command words name names named e) why;
+  }
+
+  by_texts : (names : TextNames) → texts_named words ≡ Some names → (why : Status) → (why ≡ status.Usage → ⊥) → IsExactCheck words tells why → IsExact words tells why
+  by_texts names named why not check = record {
+    usage = ((λ e. absurd (not e)), (λ h. absurd (some_none (texts_named words) names named h.1)));
+    run = no_script (λ name e. one_command words name names e named) why;
+    check = check;
+  }
+
   -- usage
-  pub usage_exact : script_named words ≡ None → IsExact words tells status.Usage
-  usage_exact none = record {
-    usage = ((λ e. none), (λ e. refl));
-    done = λ t n. absurd (some_none (script_named words) n.name n.named none);
-    invalid = λ t n b. absurd (some_none (script_named words) n.name n.named none);
-    refused = λ t n f place c. absurd (some_none (script_named words) n.name n.named none);
+  usage_exact : script_named words ≡ None → texts_named words ≡ None → IsExact words tells status.Usage
+  usage_exact none never = record {
+    usage = ((λ e. (none, never)), (λ e. refl));
+    run = no_script (λ name e. some_none (script_named words) name e none) status.Usage;
+    check = no_texts (λ names e. some_none (texts_named words) names e never) status.Usage;
   }
 
   -- a script that is ready
-  pub done_exact : (script : Script) → Names words (λ name. WasRead (tells name) (λ t. IsReadyText t script)) → IsExact words tells status.Done
+  done_exact : (script : Script) → Names words (λ name. WasRead (tells name) (λ t. IsReadyText t script)) → IsExactRun words tells status.Done
   done_exact script h = record {
-    usage = ((λ e. absurd (done_usage e)), (λ e. absurd (some_none (script_named words) h.name h.named e)));
     done = λ t n. ((λ e. record { script = script; ready = told_text t (λ u. IsReadyText u script) n h }), (λ e. refl));
     invalid = λ t n b. ((λ e. absurd (done_invalid b e)), (λ r. absurd (no_ready_refusal t script (told_text t (λ u. IsReadyText u script) n h) (status.PlanInvalid b) r.line r.refusal)));
     refused = λ t n f place c. ((λ e. absurd (done_refused f place c e)), (λ r. absurd (no_ready_refusal t script (told_text t (λ u. IsReadyText u script) n h) (status.TextRefused f place c) r.line r.refusal)));
   }
 
   -- a plan that isn't valid
-  pub invalid_exact : (b : Broken) (line : List ℕ) → Names words (λ name. WasRead (tells name) (λ t. IsTextRefusal t (status.PlanInvalid b) line)) → IsExact words tells (status.PlanInvalid b)
+  invalid_exact : (b : Broken) (line : List ℕ) → Names words (λ name. WasRead (tells name) (λ t. IsTextRefusal t (status.PlanInvalid b) line)) → IsExactRun words tells (status.PlanInvalid b)
   invalid_exact b line h = record {
-    usage = ((λ e. absurd (invalid_usage b e)), (λ e. absurd (some_none (script_named words) h.name h.named e)));
     done = λ t n. ((λ e. absurd (done_invalid b (sym e))), (λ r. absurd (no_ready_refusal t r.script r.ready (status.PlanInvalid b) line (is t n))));
     invalid = λ t n d. ((λ e. record { line = line; refusal = subst (λ z. IsTextRefusal t z line) e (is t n) }), (λ r. one_plan t b d line r.line (is t n) r.refusal));
     refused = λ t n f place c. ((λ e. absurd (invalid_refused b f place c e)), (λ r. absurd (no_plan_text t b f place c line r.line (is t n) r.refusal)));
@@ -149,10 +170,9 @@ module _ (words : List (List ℕ)) (tells : List ℕ → Told) where
       is t n = told_text t (λ u. IsTextRefusal u (status.PlanInvalid b) line) n h
 
   -- a text that is refused
-  pub refused_exact : (f : File) (place : ℕ) (c : Cause) (line : List ℕ) → Names words (λ name. WasRead (tells name) (λ t. IsTextRefusal t (status.TextRefused f place c) line)) →
-      IsExact words tells (status.TextRefused f place c)
+  refused_exact : (f : File) (place : ℕ) (c : Cause) (line : List ℕ) → Names words (λ name. WasRead (tells name) (λ t. IsTextRefusal t (status.TextRefused f place c) line)) →
+      IsExactRun words tells (status.TextRefused f place c)
   refused_exact f place c line h = record {
-    usage = ((λ e. absurd (refused_usage f place c e)), (λ e. absurd (some_none (script_named words) h.name h.named e)));
     done = λ t n. ((λ e. absurd (done_refused f place c (sym e))), (λ r. absurd (no_ready_refusal t r.script r.ready (status.TextRefused f place c) line (is t n))));
     invalid = λ t n b. ((λ e. absurd (invalid_refused b f place c (sym e))), (λ r. absurd (no_plan_text t b f place c r.line line r.refusal (is t n))));
     refused = λ t n g other d. ((λ e. record { line = line; refusal = subst (λ z. IsTextRefusal t z line) e (is t n) }), (λ r. one_refused t f g place other c d line r.line (is t n) r.refusal));
@@ -162,13 +182,23 @@ module _ (words : List (List ℕ)) (tells : List ℕ → Told) where
       is t n = told_text t (λ u. IsTextRefusal u (status.TextRefused f place c) line) n h
 
   module _ (c : Counts) (out notes : Taken) where
-    of_run : (run : Option RunRecord) → OfRun run (IsDone words tells out notes) → IsExact words tells status.Done
-    of_run None h = absurd h
-    of_run (Some run) h = done_exact h.recorded.script h.recorded.ready
+    of_run : (run : Option RunRecord) → IsAllDone words tells out notes run → IsExact words tells status.Done
+    of_run None h = by_texts h.checked.names h.checked.named status.Done done_usage (check_done words tells h.cost h.checked)
+    of_run (Some run) h = by_script h.recorded.ready.name h.recorded.ready.named status.Done done_usage (done_exact h.recorded.script h.recorded.ready)
+
+    of_invalid : (b : Broken) (line : List ℕ) → Names words (λ name. IsNamedRefusal name (tells name) c (status.PlanInvalid b) line) ⊎ NamesTexts words (λ names. IsTextsRefusal names tells c (status.PlanInvalid b) line) →
+        IsExact words tells (status.PlanInvalid b)
+    of_invalid b line (inl h) = by_script h.name h.named (status.PlanInvalid b) (invalid_usage b) (invalid_exact b line h)
+    of_invalid b line (inr h) = by_texts h.names h.named (status.PlanInvalid b) (invalid_usage b) (check_invalid words tells c b line h)
+
+    of_refused : (f : File) (place : ℕ) (cause : Cause) (line : List ℕ) → Names words (λ name. IsNamedRefusal name (tells name) c (status.TextRefused f place cause) line) ⊎ NamesTexts words (λ names. IsTextsRefusal names tells c (status.TextRefused f place cause) line) →
+        IsExact words tells (status.TextRefused f place cause)
+    of_refused f place cause line (inl h) = by_script h.name h.named (status.TextRefused f place cause) (refused_usage f place cause) (refused_exact f place cause line h)
+    of_refused f place cause line (inr h) = by_texts h.names h.named (status.TextRefused f place cause) (refused_usage f place cause) (check_refused words tells c f place cause line h)
 
     pub exact : (why : Status) (run : Option RunRecord) → Ends words tells c out notes why run → IsDecided why → IsExact words tells why
     exact status.Done run h d = of_run run h
-    exact (status.PlanInvalid b) run h d = invalid_exact b h.line h.refusal
-    exact status.Usage run h d = usage_exact h.refusal.0
-    exact (status.TextRefused f place cause) run h d = refused_exact f place cause h.line h.refusal
+    exact (status.PlanInvalid b) run h d = of_invalid b h.line h.refusal
+    exact status.Usage run h d = usage_exact h.refusal.0 h.refusal.1
+    exact (status.TextRefused f place cause) run h d = of_refused f place cause h.line h.refusal
     exact other run h d = absurd d

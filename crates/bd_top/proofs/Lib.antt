@@ -1,7 +1,10 @@
 pub mod RunLemmas
 pub mod NamedLemmas
 pub mod UnreadLemmas
+pub mod CommandLemmas
 pub mod CompleteLemmas
+pub mod CheckLemmas
+pub mod TextsLemmas
 pub mod ExactLemmas
 pub mod UsableLemmas
 pub mod TextLemmas

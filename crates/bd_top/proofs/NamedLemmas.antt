@@ -8,7 +8,8 @@ use Rattle.bd_top.specs.declared.prepare.Prepared.{Prepared}
 use Rattle.bd_top.specs.declared.prepare.Prepared.TheVariants as prepared
 use Rattle.bd_top.specs.declared.status.Status.{Status}
 use Rattle.bd_top.specs.declared.status.Status.TheVariants as status
-use Rattle.bd_top.specs.Prepared.{Counts, WasRead, IsToldAs, IsOver, IsTextRefusal, IsNamedRefusal, PreparesText, PreparesNamed}
+use Rattle.task_inputs.specs.Reads.{Counts, WasRead, IsToldAs}
+use Rattle.bd_top.specs.Prepared.{IsOver, IsTextRefusal, IsNamedRefusal, PreparesText, PreparesNamed}
 
 -- a script's counts have no limit on the text
 abbrev passed : Limit → ℕ → Option (Limit × ℕ)
@@ -76,4 +77,5 @@ module _ (told : Told) (c : Counts) (v : Vec ℕ Global) (t : List ℕ) (same : 
   pub named : (name : List ℕ) (p : Prepared) → PreparesText t p → PreparesNamed name told c p
   named name (prepared.Ready script) h = was _ h
   named name (prepared.Refused why line) h = named_refusal name why line h
+  named name (prepared.Valid cost) h = absurd h
   named name prepared.NoMemory h = tt

@@ -3,7 +3,7 @@ use Rattle.std.proofs.Common.{◌≡◌, ℕ, true, false, Err, subst}
 use Rattle.bd_base.specs.Shelf.{Told, untold, absent, text, Reads}
 use Rattle.bd_base.specs.declared.shelf.ShelfErr.{ShelfErr}
 use Rattle.bd_base.specs.declared.shelf.ShelfErr.TheVariants.{Missing, Failed}
-use Rattle.bd_top.specs.Prepared.{Counts, IsUnread}
+use Rattle.task_inputs.specs.Reads.{Counts, IsUnread}
 
 abbrev max : ℕ
 max = 16_777_216

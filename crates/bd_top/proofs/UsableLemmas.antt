@@ -8,7 +8,7 @@ use Rattle.plan_core.specs.declared.refusal.Refusal.{Refusal}
 use Rattle.bd_top.specs.declared.record.RunRecord.{RunRecord}
 use Rattle.bd_top.specs.declared.status.Status.{Status}
 use Rattle.bd_top.specs.declared.status.Status.TheVariants as status
-use Rattle.bd_top.specs.Prepared.{Counts}
+use Rattle.task_inputs.specs.Reads.{Counts}
 use Rattle.bd_top.specs.Replay.{Makes}
 use Rattle.bd_top.specs.Run.{Ends, IsRunOf, IsRecorded, IsUsable, AreTold}
 use Rattle.bd_top.specs.Taken.{Taken}

@@ -1,7 +1,6 @@
 -- What the words and the texts that they name lead to: a script that is ready to run, or a refusal with its line.
 use Rattle.std.specs.Prelude.{◌≡◌, ◌⊎◌, ℕ, ◌<◌, ◌≤◌, Bool, true, false, All, List, length, Some, None, Err, unwrap_or}
-use Rattle.bd_base.specs.Causes.{Rose}
-use Rattle.bd_base.specs.Shelf.{Told, untold, absent, text}
+use Rattle.bd_base.specs.Shelf.{Told}
 use Rattle.bd_base.specs.declared.text_err.Cause.{Cause}
 use Rattle.bd_base.specs.declared.text_err.Cause.TheVariants as causes
 use Rattle.bd_base.specs.declared.text_err.Limit.{Limit}
@@ -20,14 +19,21 @@ use Rattle.script_text.specs.Range.{StartsBy}
 use Rattle.script_text.specs.Whole.{script_at}
 use Rattle.script_text.specs.Spells.{SpellsScript}
 use Rattle.script_text.specs.Limits.{over_of}
+use Rattle.task_inputs.specs.declared.answers.Part.{Part}
+use Rattle.task_inputs.specs.declared.answers.Part.TheVariants as part
+use Rattle.task_inputs.specs.declared.answers.Inputs.{Inputs}
+use Rattle.task_inputs.specs.declared.answers.Inputs.TheVariants as inputs
+use Rattle.task_inputs.specs.Inputs.{LeadsTo}
+use Rattle.task_inputs.specs.Reads.{Counts, IsUnread, IsLong, WasRead}
 use Rattle.bd_top.specs.declared.usage.TheConstants.{USAGE}
+use Rattle.bd_top.specs.declared.status.File.{File}
 use Rattle.bd_top.specs.declared.prepare.Prepared.{Prepared}
 use Rattle.bd_top.specs.declared.prepare.Prepared.TheVariants as prepared
 use Rattle.bd_top.specs.declared.status.File.TheVariants as file
 use Rattle.bd_top.specs.declared.status.Status.{Status}
 use Rattle.bd_top.specs.declared.status.Status.TheVariants as status
 use Rattle.bd_top.specs.Texts.{invalid_line, refused_line, over_line, unread_line}
-use Rattle.bd_top.specs.Words.{script_named}
+use Rattle.bd_top.specs.Words.{script_named, texts_named, TextNames}
 
 -- the tree that a script starts from: its own, where it has one, else the chain of its plan
 abbrev pub start_of : Script → Node
@@ -118,51 +124,10 @@ IsFirstBreak script (broken.Step at f) = (IsValid script.task script.plan → �
 IsFirstBreak script (broken.Goal f) = (IsValid script.task script.plan → ⊥) × (first_break script.task script.plan ≡ Some (goal_lacks f))
 IsFirstBreak script broken.NoMemory = Unit {0}
 
--- the line for a plan that breaks so
-abbrev pub IsBrokenLine : TaskView → Broken → List ℕ → Type 0
-IsBrokenLine task (broken.Step at f) line = line ≡ invalid_line task (step_lacks at f)
-IsBrokenLine task (broken.Goal f) line = line ≡ invalid_line task (goal_lacks f)
-IsBrokenLine task broken.NoMemory line = ⊥
-
 -- whether the tree that the script starts from is sound
 abbrev pub JudgesStart : Script → Bool → Type 0
 JudgesStart script true = IsSound script.task (start_of script)
 JudgesStart script false = HasUnsoundStart script
-
--- the text that was read is the one that is told, where one is
-abbrev pub IsToldAs : Told → List ℕ → Type 0
-IsToldAs untold read = Unit {0}
-IsToldAs absent read = ⊥
-IsToldAs (text t) read = t ≡ read
-
--- the counts of a shelf's faults and long texts, before and after a call
-pub record Counts : Type 0 where
-  pub faults : ℕ
-  pub faults_after : ℕ
-  pub longs : ℕ
-  pub longs_after : ℕ
-
--- a text couldn't be read: it is told that it isn't there, which is told as missing, or the shelf's count of faults rose; a text
--- that is told is never missing
-abbrev pub IsUnread : Told → Counts → Bool → Type 0
-IsUnread absent c true = Unit {0}
-IsUnread absent c false = ⊥
-IsUnread untold c missing = Rose c.faults c.faults_after
-IsUnread (text t) c true = ⊥
-IsUnread (text t) c false = Rose c.faults c.faults_after × (length t ≤ 16_777_216)
-
--- a text was too long: the count of long texts rose, and the text that is told has more than 16 MiB
-abbrev pub IsLong : Told → Counts → Type 0
-IsLong untold c = Rose c.longs c.longs_after
-IsLong absent c = ⊥
-IsLong (text t) c = Rose c.longs c.longs_after × (16_777_216 < length t)
-
--- a text of at most 16 MiB was read, of which P holds
-pub record WasRead (told : Told) (P : List ℕ → Type 0) : Type 0 where
-  pub read : List ℕ
-  pub is_told : IsToldAs told read
-  pub short : length read ≤ 16_777_216
-  pub holds : P read
 
 -- why the script of a name is refused, by what the shelf tells of it
 abbrev pub IsNamedRefusal : List ℕ → Told → Counts → Status → List ℕ → Type 0
@@ -176,10 +141,57 @@ pub record Names (words : List (List ℕ)) (P : List ℕ → Type 0) : Type 0 wh
   pub named : script_named words ≡ Some name
   pub holds : P name
 
+-- the words name three texts, of which P holds
+pub record NamesTexts (words : List (List ℕ)) (P : TextNames → Type 0) : Type 0 where
+  pub names : TextNames
+  pub named : texts_named words ≡ Some names
+  pub holds : P names
+
+-- what the texts that a shelf tells lead to
+abbrev pub TextsLead : TextNames → (List ℕ → Told) → Counts → Inputs → Type 0
+TextsLead names tells c result = LeadsTo (tells names.domain) (tells names.problem) (tells names.plan) c result
+
+abbrev pub file_by : Part → File
+file_by part.Domain = file.Domain
+file_by part.Problem = file.Problem
+file_by part.Plan = file.Plan
+
+abbrev pub name_by : TextNames → Part → List ℕ
+name_by names part.Domain = names.domain
+name_by names part.Problem = names.problem
+name_by names part.Plan = names.plan
+
+-- the line for a plan that breaks so
+abbrev pub IsBrokenLine : TaskView → Broken → List ℕ → Type 0
+IsBrokenLine task (broken.Step at f) line = line ≡ invalid_line task (step_lacks at f)
+IsBrokenLine task (broken.Goal f) line = line ≡ invalid_line task (goal_lacks f)
+IsBrokenLine task broken.NoMemory line = ⊥
+
+-- the status and the line that tell of what texts lead to
+abbrev pub Tells : TextNames → Inputs → Status → List ℕ → Type 0
+Tells names (inputs.Unread p missing) why line = (why ≡ status.ReadFault (name_by names p) missing) × (line ≡ unread_line (name_by names p) missing)
+Tells names (inputs.Refused p place cause) why line = (why ≡ status.TextRefused (file_by p) place cause) × (line ≡ refused_line (file_by p) place cause)
+Tells names (inputs.Over l count) why line = (why ≡ status.OverLimit l count) × (line ≡ over_line l count)
+Tells names (inputs.Broken task b) why line = (why ≡ status.PlanInvalid b) × IsBrokenLine task b line
+Tells names (inputs.Ready task plan cost) why line = ⊥
+Tells names inputs.NoMemory why line = ⊥
+
+-- the texts lead to something that is told so
+pub record IsTextsRefusal (names : TextNames) (tells : List ℕ → Told) (c : Counts) (why : Status) (line : List ℕ) : Type 0 where
+  pub result : Inputs
+  pub leads : TextsLead names tells c result
+  pub told : Tells names result why line
+
+-- the words name texts that lead to a ready plan of this cost
+pub record LeadToPlan (names : TextNames) (tells : List ℕ → Told) (c : Counts) (cost : ℕ) : Type 0 where
+  pub task : TaskView
+  pub plan : List ℕ
+  pub leads : TextsLead names tells c (inputs.Ready task plan cost)
+
 -- why a run is refused, and the line that says so
 abbrev pub IsRefusal : List (List ℕ) → (List ℕ → Told) → Counts → Status → List ℕ → Type 0
-IsRefusal words tells c status.Usage line = (script_named words ≡ None) × (line ≡ USAGE.now)
-IsRefusal words tells c other line = Names words (λ name. IsNamedRefusal name (tells name) c other line)
+IsRefusal words tells c status.Usage line = (script_named words ≡ None) × (texts_named words ≡ None) × (line ≡ USAGE.now)
+IsRefusal words tells c other line = Names words (λ name. IsNamedRefusal name (tells name) c other line) ⊎ NamesTexts words (λ names. IsTextsRefusal names tells c other line)
 
 -- the words name a script that is ready to run
 abbrev pub IsReady : List (List ℕ) → (List ℕ → Told) → Script → Type 0
@@ -194,20 +206,44 @@ PreparesScript script (prepared.Refused (status.PlanInvalid (broken.Goal f)) lin
     IsFirstBreak script (broken.Goal f) × (line ≡ invalid_line script.task (goal_lacks f))
 PreparesScript script (prepared.Refused (status.TextRefused file.Script place cause) line) = FailsAtStart script place cause × (line ≡ refused_line file.Script place cause)
 PreparesScript script (prepared.Refused other line) = ⊥
+PreparesScript script (prepared.Valid cost) = ⊥
 PreparesScript script prepared.NoMemory = Unit {0}
 
 -- what is prepared is what there is; want of memory is free
 abbrev pub PreparesText : List ℕ → Prepared → Type 0
 PreparesText t (prepared.Ready script) = IsReadyText t script
 PreparesText t (prepared.Refused why line) = IsTextRefusal t why line
+PreparesText t (prepared.Valid cost) = ⊥
 PreparesText t prepared.NoMemory = Unit {0}
 
 abbrev pub PreparesNamed : List ℕ → Told → Counts → Prepared → Type 0
 PreparesNamed name told c (prepared.Ready script) = WasRead told (λ t. IsReadyText t script)
 PreparesNamed name told c (prepared.Refused why line) = IsNamedRefusal name told c why line
+PreparesNamed name told c (prepared.Valid cost) = ⊥
 PreparesNamed name told c prepared.NoMemory = Unit {0}
+
+-- what is prepared of three texts
+abbrev pub PreparesTexts : TextNames → (List ℕ → Told) → Counts → Prepared → Type 0
+PreparesTexts names tells c (prepared.Ready script) = ⊥
+PreparesTexts names tells c (prepared.Valid cost) = LeadToPlan names tells c cost
+PreparesTexts names tells c (prepared.Refused why line) = IsTextsRefusal names tells c why line
+PreparesTexts names tells c prepared.NoMemory = Unit {0}
+
+-- what is prepared of what texts lead to
+abbrev pub IsPreparedOf : TextNames → Inputs → Prepared → Type 0
+IsPreparedOf names (inputs.Ready task plan cost) (prepared.Valid same) = same ≡ cost
+IsPreparedOf names result (prepared.Refused why line) = Tells names result why line
+IsPreparedOf names result prepared.NoMemory = Unit {0}
+IsPreparedOf names result other = ⊥
+
+-- the refusal of a text that couldn't be read
+abbrev pub IsReadFault : List ℕ → Bool → Prepared → Type 0
+IsReadFault name missing (prepared.Refused why line) = (why ≡ status.ReadFault name missing) × (line ≡ unread_line name missing)
+IsReadFault name missing prepared.NoMemory = Unit {0}
+IsReadFault name missing other = ⊥
 
 abbrev pub Prepares : List (List ℕ) → (List ℕ → Told) → Counts → Prepared → Type 0
 Prepares words tells c (prepared.Ready script) = IsReady words tells script
+Prepares words tells c (prepared.Valid cost) = NamesTexts words (λ names. LeadToPlan names tells c cost)
 Prepares words tells c (prepared.Refused why line) = IsRefusal words tells c why line
 Prepares words tells c prepared.NoMemory = Unit {0}

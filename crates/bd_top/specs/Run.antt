@@ -3,7 +3,8 @@ use Rattle.std.specs.Prelude.{◌≡◌, ◌⊎◌, ◌↔◌, ℕ, ◌≤◌, �
 use Rattle.bd_base.specs.Causes.{Rose}
 use Rattle.bd_base.specs.Shelf.{Told, text}
 use Rattle.bd_base.specs.declared.text_err.Cause.{Cause}
-use Rattle.bd_task.specs.Valid.{IsValid}
+use Rattle.bd_task.specs.TaskView.{TaskView}
+use Rattle.bd_task.specs.Valid.{IsValid, cost_of}
 use Rattle.bd_tree.specs.declared.node.Node.{Node}
 use Rattle.bd_links.specs.Sound.{IsSound}
 use Rattle.plan_core.specs.Core.{CoreView, opened, opening, replay}
@@ -22,11 +23,15 @@ use Rattle.bd_top.specs.declared.status.Status.{Status}
 use Rattle.bd_top.specs.declared.status.Status.TheVariants as status
 use Rattle.bd_top.specs.declared.replay.Stop.{Stop}
 use Rattle.bd_top.specs.declared.replay.Stop.TheVariants as stop
-use Rattle.bd_top.specs.Prepared.{Counts, IsReady, IsReadyText, IsRefusal, IsTextRefusal, start_of}
+use Rattle.task_inputs.specs.Reads.{Counts, IsToldAs}
+use Rattle.task_inputs.specs.declared.answers.Part.{Part}
+use Rattle.task_inputs.specs.declared.answers.Inputs.TheVariants as inputs
+use Rattle.task_inputs.specs.Inputs.{outcome, IsValidPlan}
+use Rattle.bd_top.specs.Prepared.{IsReady, IsReadyText, IsRefusal, IsTextRefusal, start_of, file_by}
 use Rattle.bd_top.specs.Replay.{Makes, IsTold}
 use Rattle.bd_top.specs.Taken.{Taken, IsSilent, Receives, ReceivesPart, HasFailed, IsCut}
-use Rattle.bd_top.specs.Texts.{summary_of, printed_of, noted_of}
-use Rattle.bd_top.specs.Words.{script_named}
+use Rattle.bd_top.specs.Texts.{summary_of, printed_of, noted_of, valid_line}
+use Rattle.bd_top.specs.Words.{script_named, texts_named, TextNames}
 
 -- a run ends with its script where every offer was made
 abbrev pub end_of : List Offer → List (Result ℕ Refusal) → Option End
@@ -62,11 +67,6 @@ pub record IsRecorded (words : List (List ℕ)) (tells : List ℕ → Told) (run
   pub ready : IsReady words tells script
   pub is_run : IsRunOf (opening_of script) script.offers run
 
--- of the run that a status comes with
-abbrev pub OfRun : Option RunRecord → (RunRecord → Type 0) → Type 0
-OfRun None P = ⊥
-OfRun (Some run) P = P run
-
 -- every offer was made, and the sinks have received exactly what the run puts
 pub record IsDone (words : List (List ℕ)) (tells : List ℕ → Told) (out notes : Taken) (run : RunRecord) : Type 0 where
   pub recorded : IsRecorded words tells run
@@ -85,6 +85,45 @@ pub record IsWriteFault (words : List (List ℕ)) (tells : List ℕ → Told) (o
   pub failed : HasFailed out ⊎ HasFailed notes
   pub partly : IsPartly words tells out notes run
 
+-- The words name a domain, a problem and a plan, whose texts, as they were read, give a task and a valid plan for it of this cost.
+pub record IsCheckedPlan (words : List (List ℕ)) (tells : List ℕ → Told) (cost : ℕ) : Type 0 where
+  pub names : TextNames
+  pub named : texts_named words ≡ Some names
+  pub domain : List ℕ
+  pub problem : List ℕ
+  pub plan : List ℕ
+  pub domain_told : IsToldAs (tells names.domain) domain
+  pub problem_told : IsToldAs (tells names.problem) problem
+  pub plan_told : IsToldAs (tells names.plan) plan
+  pub task : TaskView
+  pub list : List ℕ
+  pub valid : IsValidPlan domain problem plan task list
+  pub costs : cost ≡ cost_of task list
+
+-- the plan was checked, and `out` has received exactly its cost
+pub record IsChecked (words : List (List ℕ)) (tells : List ℕ → Told) (out notes : Taken) : Type 0 where
+  pub cost : ℕ
+  pub checked : IsCheckedPlan words tells cost
+  pub printed : Receives out (valid_line cost)
+  pub noted : IsSilent notes
+
+-- the plan was checked, but `out` failed within its cost
+pub record IsCheckCut (words : List (List ℕ)) (tells : List ℕ → Told) (out notes : Taken) : Type 0 where
+  pub cost : ℕ
+  pub checked : IsCheckedPlan words tells cost
+  pub printed : IsCut out (valid_line cost)
+  pub noted : IsSilent notes
+
+-- all was done: a script was run, or a plan was checked
+abbrev pub IsAllDone : List (List ℕ) → (List ℕ → Told) → Taken → Taken → Option RunRecord → Type 0
+IsAllDone words tells out notes None = IsChecked words tells out notes
+IsAllDone words tells out notes (Some run) = IsDone words tells out notes run
+
+-- a write failed: within a run, or within the cost of a plan
+abbrev pub HasWriteFault : List (List ℕ) → (List ℕ → Told) → Taken → Taken → Option RunRecord → Type 0
+HasWriteFault words tells out notes None = IsCheckCut words tells out notes
+HasWriteFault words tells out notes (Some run) = IsWriteFault words tells out notes run
+
 -- memory was wanting: the run was kept, or nothing was put
 abbrev pub IsOutOfMemory : List (List ℕ) → (List ℕ → Told) → Taken → Taken → Option RunRecord → Type 0
 IsOutOfMemory words tells out notes None = IsSilent out × IsSilent notes
@@ -100,8 +139,8 @@ pub record IsRefused (words : List (List ℕ)) (tells : List ℕ → Told) (c : 
 
 -- how a run ends
 abbrev pub Ends : List (List ℕ) → (List ℕ → Told) → Counts → Taken → Taken → Status → Option RunRecord → Type 0
-Ends words tells c out notes status.Done run = OfRun run (IsDone words tells out notes)
-Ends words tells c out notes status.WriteFault run = OfRun run (IsWriteFault words tells out notes)
+Ends words tells c out notes status.Done run = IsAllDone words tells out notes run
+Ends words tells c out notes status.WriteFault run = HasWriteFault words tells out notes run
 Ends words tells c out notes status.NoMemory run = IsOutOfMemory words tells out notes run
 Ends words tells c out notes why run = IsRefused words tells c out notes why run
 
@@ -113,9 +152,21 @@ Replays core offers out notes status.NoMemory (Some run) = IsRunOf core offers r
 Replays core offers out notes status.NoMemory None = IsSilent out × IsSilent notes
 Replays core offers out notes other run = ⊥
 
+-- what the putting of a valid plan's cost ends with
+abbrev pub Checks : ℕ → Taken → Status → Option RunRecord → Type 0
+Checks cost out status.Done None = Receives out (valid_line cost)
+Checks cost out status.WriteFault None = IsCut out (valid_line cost)
+Checks cost out status.NoMemory None = IsSilent out
+Checks cost out other run = ⊥
+
 abbrev pub status_of : Stop → Status
 status_of stop.WriteFault = status.WriteFault
 status_of stop.NoMemory = status.NoMemory
+
+-- what a put that ends a command ends it with
+abbrev pub status_by : Result (Unit {0}) Stop → Status
+status_by (Ok done) = status.Done
+status_by (Err why) = status_of why
 
 -- the summary of a run was put where every offer was made, or a sink failed, or memory was wanting; the run is kept
 abbrev pub Finishes : Result (Unit {0}) Stop → RunRecord → Taken → Status → Option RunRecord → Type 0
@@ -138,6 +189,24 @@ pub record IsGood (words : List (List ℕ)) (tells : List ℕ → Told) (script 
   pub within : over_of script ≡ None
   pub valid : IsValid script.task script.plan
   pub starts : (root : Node) → script.start ≡ Some root → IsSound script.task root
+
+-- the words name three texts, and these are their texts as they are told
+pub record AreNamedTexts (words : List (List ℕ)) (tells : List ℕ → Told) (domain problem plan : List ℕ) : Type 0 where
+  pub names : TextNames
+  pub named : texts_named words ≡ Some names
+  pub domain_told : tells names.domain ≡ text domain
+  pub problem_told : tells names.problem ≡ text problem
+  pub plan_told : tells names.plan ≡ text plan
+
+-- the words name three texts that are told: each has at most 16 MiB, and they give a task and a valid plan
+pub record IsGoodPlan (words : List (List ℕ)) (tells : List ℕ → Told) (domain problem plan : List ℕ) : Type 0 where
+  pub told : AreNamedTexts words tells domain problem plan
+  pub short_domain : length domain ≤ 16_777_216
+  pub short_problem : length problem ≤ 16_777_216
+  pub short_plan : length plan ≤ 16_777_216
+  pub task : TaskView
+  pub list : List ℕ
+  pub valid : IsValidPlan domain problem plan task list
 
 -- the count of faults didn't rise
 abbrev pub IsFaultless : ℕ → ℕ → Type 0
@@ -173,14 +242,42 @@ pub record IsRefusedText (t : List ℕ) (why : Status) : Type 0 where
   pub line : List ℕ
   pub refusal : IsTextRefusal t why line
 
--- each status that the words and the texts decide comes exactly where its cause stands: usage where the words name no script, and
--- of a text that is told: done where it is ready to run, and each refusal of a plan or a text where that is its refusal
-pub record IsExact (words : List (List ℕ)) (tells : List ℕ → Told) (why : Status) : Type 0 where
-  pub usage : (why ≡ status.Usage) ↔ (script_named words ≡ None)
+-- the texts give a task and a valid plan
+pub record HasValidPlan (domain problem plan : List ℕ) : Type 0 where
+  pub task : TaskView
+  pub list : List ℕ
+  pub valid : IsValidPlan domain problem plan task list
+
+-- the texts give a task and a plan whose first break is this
+pub record BreaksFirst (domain problem plan : List ℕ) (b : Broken) : Type 0 where
+  pub task : TaskView
+  pub leads : outcome domain problem plan ≡ inputs.Broken task b
+
+-- this is the first fault of one of the texts, in the order in which they are judged
+pub record IsFirstFault (domain problem plan : List ℕ) (file : File) (place : ℕ) (cause : Cause) : Type 0 where
+  pub part : Part
+  pub of_part : file ≡ file_by part
+  pub leads : outcome domain problem plan ≡ inputs.Refused part place cause
+
+-- Of a script's text that is told: done comes where it is ready to run, and each refusal of a plan or a text where that is its refusal.
+pub record IsExactRun (words : List (List ℕ)) (tells : List ℕ → Told) (why : Status) : Type 0 where
   pub done : (t : List ℕ) → IsNamedText words tells t → (why ≡ status.Done) ↔ IsRunText t
   pub invalid : (t : List ℕ) → IsNamedText words tells t → (b : Broken) → (why ≡ status.PlanInvalid b) ↔ IsRefusedText t (status.PlanInvalid b)
   pub refused : (t : List ℕ) → IsNamedText words tells t → (file : File) (place : ℕ) (cause : Cause) →
       (why ≡ status.TextRefused file place cause) ↔ IsRefusedText t (status.TextRefused file place cause)
+
+-- Of three texts that are told: done comes where they give a valid plan, and each refusal where it is the first.
+pub record IsExactCheck (words : List (List ℕ)) (tells : List ℕ → Told) (why : Status) : Type 0 where
+  pub done : (d p q : List ℕ) → AreNamedTexts words tells d p q → (why ≡ status.Done) ↔ HasValidPlan d p q
+  pub invalid : (d p q : List ℕ) → AreNamedTexts words tells d p q → (b : Broken) → (why ≡ status.PlanInvalid b) ↔ BreaksFirst d p q b
+  pub refused : (d p q : List ℕ) → AreNamedTexts words tells d p q → (file : File) (place : ℕ) (cause : Cause) →
+      (why ≡ status.TextRefused file place cause) ↔ IsFirstFault d p q file place cause
+
+-- each status that the words and the texts decide comes exactly where its cause stands; usage where the words name no texts
+pub record IsExact (words : List (List ℕ)) (tells : List ℕ → Told) (why : Status) : Type 0 where
+  pub usage : (why ≡ status.Usage) ↔ ((script_named words ≡ None) × (texts_named words ≡ None))
+  pub run : IsExactRun words tells why
+  pub check : IsExactCheck words tells why
 
 -- a fact that one of the replies tells is one of so many
 abbrev pub AreTold : ℕ → List (Result ℕ Refusal) → Type 0

@@ -30,6 +30,10 @@ newline = 10 ∷ []
 abbrev pub counted : List ℕ → ℕ → List ℕ
 counted title n = title ++ decimal n ++ newline
 
+-- the cost of a valid plan
+abbrev pub valid_line : ℕ → List ℕ
+valid_line cost = counted (codes "valid cost ") cost
+
 abbrev pub end_name : End → List ℕ
 end_name Script = codes "script"
 

@@ -8,3 +8,18 @@ script_named [] = None
 script_named (command ∷ []) = None
 script_named (command ∷ name ∷ []) = cond (bytes_eq command (codes "replay")) (Some name) None
 script_named (command ∷ name ∷ more ∷ rest) = None
+
+-- the names of a domain, a problem and a plan
+pub record TextNames : Type 0 where
+  pub domain : List ℕ
+  pub problem : List ℕ
+  pub plan : List ℕ
+
+-- the names of the texts, where the words are `check` and three more
+abbrev pub texts_named : List (List ℕ) → Option TextNames
+texts_named [] = None
+texts_named (command ∷ []) = None
+texts_named (command ∷ domain ∷ []) = None
+texts_named (command ∷ domain ∷ problem ∷ []) = None
+texts_named (command ∷ domain ∷ problem ∷ plan ∷ []) = cond (bytes_eq command (codes "check")) (Some (record { domain = domain; problem = problem; plan = plan })) None
+texts_named (command ∷ domain ∷ problem ∷ plan ∷ more ∷ rest) = None

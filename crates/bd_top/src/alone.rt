@@ -6,13 +6,14 @@ ghost use Rattle.plan_core.specs.Law.{IsLawful, IsPrintable, MayBegin};
 ghost use Rattle.plan_core.specs.Replies.{IsLent};
 ghost use Rattle.script_text.specs.declared.script.Script.{Script};
 ghost use Rattle.bd_top.specs.Prepared.{IsRunnable};
-ghost use Rattle.bd_top.specs.Run.{Ends, Finishes, IsDecided, IsDoneOrNoMemory, IsExact, IsFaultless, IsGood, IsUsable, Replays, opening_of, record_of, status_of};
+ghost use Rattle.bd_top.specs.Run.{Checks, Ends, Finishes, IsDecided, IsDoneOrNoMemory, IsExact, IsFaultless, IsGood, IsGoodPlan, IsUsable, Replays, opening_of, record_of, status_by, status_of};
 
 use crate::prepare::{Prepared, prepare_words};
 use crate::record::{End, Reply, RunRecord};
 use crate::replay::{Stop, make_offers, put_text};
 use crate::status::{Ended, Status};
 use crate::summary::summary_text;
+use crate::valid::valid_text;
 use bd_base::{ActionId, FromItems, Items, NoMemory, Shelf, Sink};
 use bd_task::Task;
 use bd_tree::Tree;
@@ -179,6 +180,26 @@ fn run_script<S: Sink, E: Sink>(alloc: Global, script: Script, out: &mut S, note
     }
 }
 
+// What a put that ends a command ends it with.
+fn status_of(put: Result<(), Stop>) -> Status
+    ensures { result ≡ status_by put }
+{
+    match put {
+        Ok(()) => Status::Done,
+        Err(Stop::WriteFault) => Status::WriteFault,
+        Err(Stop::NoMemory) => Status::NoMemory,
+    }
+}
+
+// Puts the cost of a valid plan.
+fn put_cost<S: Sink>(alloc: Global, cost: u64, out: &mut S) -> Ended
+    ensures { Checks cost (record { before = S.told out.old; after = S.told out.new; faults = S.faults out.old; faults_after = S.faults out.new }) result.status result.run }
+{
+    let line = valid_text(alloc, cost);
+    let status = status_of(put_text(out, line));
+    Ended { status, run: None }
+}
+
 // Does what the words ask for.
 fn run_words<H: Shelf, S: Sink, E: Sink>(
     alloc: Global,
@@ -196,6 +217,7 @@ fn run_words<H: Shelf, S: Sink, E: Sink>(
 {
     match prepare_words(alloc, words, shelf) {
         Prepared::Ready(script) => run_script(alloc, script, out, notes),
+        Prepared::Valid { cost } => put_cost(alloc, cost, out),
         Prepared::Refused { status, line } => {
             let _ = notes.put(line.as_slice());
             Ended { status, run: None }
@@ -227,6 +249,8 @@ pub fn run_alone<H: Shelf, S: Sink, E: Sink>(
     ensures exact { IsDecided result.status → IsExact (map string_bytes words.now) (H.tells shelf.old) result.status }
     // Whoever has the record of a run may ask for each of its texts.
     ensures usable { IfSome result.run (λ run. IsUsable run) }
+    // A valid plan is told so, where nothing outside fails.
+    ensures checked { (domain problem plan : List ℕ) → IsGoodPlan (map string_bytes words.now) (H.tells shelf.old) domain problem plan → IsFaultless (H.faults shelf.old) (H.faults shelf.new) → IsFaultless (S.faults out.old) (S.faults out.new) → IsFaultless (E.faults notes.old) (E.faults notes.new) → IsDoneOrNoMemory result.status }
     // A good script is run, where nothing outside fails.
     ensures complete { (script : Script) → IsGood (map string_bytes words.now) (H.tells shelf.old) script → IsFaultless (H.faults shelf.old) (H.faults shelf.new) → IsFaultless (S.faults out.old) (S.faults out.new) → IsFaultless (E.faults notes.old) (E.faults notes.new) → IsDoneOrNoMemory result.status }
 {

@@ -1,7 +1,8 @@
 //! The whole program as one call: from words, named texts and two sinks to a status and the bytes written.
 //!
 //! It may know every crate below it. It promises what `run_alone` carries: which words and texts lead to
-//! which status, which bytes are put, and that the plan of every run is valid in each of its linearisations.
+//! which status, which bytes are put, that the plan of every run is valid in each of its linearisations, and that
+//! the cost of a plan is put exactly where the plan is valid.
 #![tactic(auto)]
 
 mod alone;
@@ -13,7 +14,9 @@ mod replay;
 mod reply;
 mod status;
 mod summary;
+mod texts;
 mod usage;
+mod valid;
 mod writing;
 
 pub use alone::run_alone;

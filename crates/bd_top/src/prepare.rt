@@ -1,7 +1,6 @@
 ghost use Rattle.std.specs.Prelude.{◌≡◌, ℕ, ◌<◌, ◌≤◌, ◌^◌, List, Err, IfOk, IfErr, All, length, MatchResult, map, string_bytes};
-ghost use Rattle.bd_base.specs.Shelf.{Told};
 ghost use Rattle.bd_task.specs.Valid.{IsValid};
-ghost use Rattle.bd_top.specs.Prepared.{Prepares, PreparesNamed, PreparesText, PreparesScript, HasFact, HasUnsoundStart, IsBounded, IsFirstBreak, JudgesStart, Counts, IsUnread};
+ghost use Rattle.bd_top.specs.Prepared.{Prepares, PreparesNamed, PreparesText, PreparesScript, HasFact, HasUnsoundStart, IsBounded, IsFirstBreak, IsReadFault, JudgesStart};
 ghost use Rattle.script_text.specs.Limits.{Spelled, Answers};
 ghost use Rattle.script_text.specs.Lines.{worded};
 ghost use Rattle.script_text.specs.Whole.{script_at};
@@ -9,7 +8,8 @@ ghost use Rattle.bd_top.specs.declared.prepare.Prepared.TheVariants.{Refused as 
 
 use crate::notes::{broken_note, over_note, refused_note, unread_note};
 use crate::status::{File, Status};
-use crate::usage::{script_name, usage_note};
+use crate::texts::prepare_texts;
+use crate::usage::{script_name, text_names, usage_note};
 use bd_base::{Cause, Limit, NoMemory, Shelf, ShelfErr, Text, TextErr};
 use bd_links::check;
 use script_text::{Script, read_script};
@@ -24,14 +24,16 @@ const TEXT_LIMIT: usize = 16_777_216;
 pub enum Prepared {
     /// A script whose plan is valid and whose start tree is sound.
     Ready(Script),
+    /// A valid plan, with its cost.
+    Valid { cost: u64 },
     /// A refusal, and the line that names it.
     Refused { status: Status, line: Text },
     /// Memory was wanting.
     NoMemory,
 }
 
-// A refusal with its line, which may have wanted memory.
-fn refused(status: Status, line: Result<Text, NoMemory>) -> Prepared
+/// A refusal with its line, which may have wanted memory.
+pub fn refused(status: Status, line: Result<Text, NoMemory>) -> Prepared
     ensures { MatchResult line (λ l. result ≡ Refusal status l) (λ _. result ≡ OutOfMemory) }
 {
     match line {
@@ -139,9 +141,9 @@ fn prepare_text(alloc: Global, text: &[u8]) -> Prepared
     }
 }
 
-// The refusal of a text that couldn't be read.
-fn unread(alloc: Global, name: &str, missing: bool) -> Prepared
-    ensures { (told : Told) (c : Counts) → IsUnread told c missing → PreparesNamed name.now told c result }
+/// The refusal of a text that couldn't be read.
+pub fn unread(alloc: Global, name: &str, missing: bool) -> Prepared
+    ensures { IsReadFault name.now missing result }
 {
     let line = unread_note(alloc, name.as_bytes(), missing);
     match Text::from_slice(alloc, name.as_bytes()) {
@@ -178,7 +180,10 @@ pub fn prepare_words<H: Shelf>(alloc: Global, words: &[String], shelf: &mut H) -
     ensures told { (n : List ℕ) → H.tells shelf.new n ≡ H.tells shelf.old n }
 {
     match script_name(words) {
-        None => refused(Status::Usage, usage_note(alloc)),
         Some(name) => prepare_named(alloc, name, shelf),
+        None => match text_names(words) {
+            Some(names) => prepare_texts(alloc, &names, shelf),
+            None => refused(Status::Usage, usage_note(alloc)),
+        },
     }
 }

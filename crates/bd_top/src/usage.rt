@@ -1,5 +1,5 @@
 ghost use Rattle.std.specs.Prelude.{◌≡◌, None, Some, MatchOption, IfOk, map, string_bytes};
-ghost use Rattle.bd_top.specs.Words.{script_named};
+ghost use Rattle.bd_top.specs.Words.{script_named, texts_named};
 
 use bd_base::{NoMemory, Text};
 use std::alloc::Global;
@@ -16,6 +16,34 @@ pub fn script_name(words: &[String]) -> Option<&str>
         [command, name] => {
             if command.as_str() == "replay" {
                 Some(name.as_str())
+            } else {
+                None
+            }
+        }
+        _ => None,
+    }
+}
+
+/// The names of a domain, a problem and a plan.
+#[derive(Clone, Copy)]
+pub struct TextNames<'a> {
+    pub domain: &'a str,
+    pub problem: &'a str,
+    pub plan: &'a str,
+}
+
+/// The texts that the words name: they are `check` and three more, whatever these begin with.
+pub fn text_names(words: &[String]) -> Option<TextNames<'_>>
+    ensures { MatchOption result (texts_named (map string_bytes words.now) ≡ None) (λ n. texts_named (map string_bytes words.now) ≡ Some (record { domain = n.domain.now; problem = n.problem.now; plan = n.plan.now })) }
+{
+    match words {
+        [command, domain, problem, plan] => {
+            if command.as_str() == "check" {
+                Some(TextNames {
+                    domain: domain.as_str(),
+                    problem: problem.as_str(),
+                    plan: plan.as_str(),
+                })
             } else {
                 None
             }

@@ -1,5 +1,14 @@
+use Rattle.std.proofs.Common.{refl}
 use Rattle.bd_top.proofs.EndLemmas.{ends}
+use Rattle.bd_top.proofs.TextsLemmas.{ends_checked, noted, refused_ends}
 use Rattle.bd_top.proofs.alone.run_words.Goals as goal
 
 pub returns-in-Ready-clause-ends : goal.returns-in-Ready-clause-ends
 returns-in-Ready-clause-ends g c = ends _ _ _ c.in-Ready.script c.in-Ready.ensures.prepared _ _ _ _ c.run_script.ensures
+
+pub returns-in-Valid-clause-ends : goal.returns-in-Valid-clause-ends
+returns-in-Valid-clause-ends g c = ends_checked _ _ _ c.in-Valid.cost _ _ _ _ c.in-Valid.ensures.prepared refl c.put_cost.ensures
+
+pub returns-in-Refused-clause-ends : goal.returns-in-Refused-clause-ends
+returns-in-Refused-clause-ends g c =
+    refused_ends _ _ _ _ _ c.in-Refused.line refl (noted _ c.as_slice.result.now c.in-Refused.line _ c.as_slice.ensures c.put.ensures.ok c.put.ensures.err c.put.ensures.cause) c.in-Refused.status c.in-Refused.ensures.prepared

@@ -1,0 +1,66 @@
+ghost use Rattle.std.specs.Prelude.{◌≡◌, ℕ, List};
+ghost use Rattle.task_inputs.specs.Inputs.{IsInTask};
+ghost use Rattle.bd_top.specs.Prepared.{PreparesTexts, IsPreparedOf, file_by, name_by};
+
+use crate::notes::{broken_note, over_note, refused_note, unread_note};
+use crate::prepare::{Prepared, refused, unread};
+use crate::status::{File, Status};
+use crate::usage::TextNames;
+use bd_base::Shelf;
+use std::alloc::Global;
+use task_inputs::{Inputs, Part, inputs};
+
+fn file_of(part: Part) -> File
+    ensures { result ≡ file_by part }
+{
+    match part {
+        Part::Domain => File::Domain,
+        Part::Problem => File::Problem,
+        Part::Plan => File::Plan,
+    }
+}
+
+fn name_of<'a>(names: &TextNames<'a>, part: Part) -> &'a str
+    ensures { result.now ≡ name_by (record { domain = names.now.domain.now; problem = names.now.problem.now; plan = names.now.plan.now }) part }
+{
+    match part {
+        Part::Domain => names.domain,
+        Part::Problem => names.problem,
+        Part::Plan => names.plan,
+    }
+}
+
+// What is prepared of what texts lead to.
+fn told(alloc: Global, names: &TextNames, inputs: Inputs) -> Prepared
+    requires { IsInTask inputs }
+    ensures { IsPreparedOf (record { domain = names.now.domain.now; problem = names.now.problem.now; plan = names.now.plan.now }) inputs result }
+{
+    match inputs {
+        Inputs::Ready { cost, .. } => Prepared::Valid { cost },
+        Inputs::Unread { part, missing } => unread(alloc, name_of(names, part), missing),
+        Inputs::Refused { part, place, cause } => {
+            let file = file_of(part);
+            let line = refused_note(alloc, file, place, &cause);
+            refused(Status::TextRefused { file, place, cause }, line)
+        }
+        Inputs::Over { limit, count } => {
+            let line = over_note(alloc, limit, count);
+            refused(Status::OverLimit { limit, count }, line)
+        }
+        Inputs::Broken { task, broken } => {
+            let line = broken_note(alloc, &task, &broken);
+            refused(Status::PlanInvalid(broken), line)
+        }
+        Inputs::NoMemory => Prepared::NoMemory,
+    }
+}
+
+/// Reads and judges three texts. The shelf still tells what it told.
+pub fn prepare_texts<H: Shelf>(alloc: Global, names: &TextNames, shelf: &mut H) -> Prepared
+    ensures prepared { PreparesTexts (record { domain = names.now.domain.now; problem = names.now.problem.now; plan = names.now.plan.now }) (H.tells shelf.old)
+        (record { faults = H.faults shelf.old; faults_after = H.faults shelf.new; longs = H.longs shelf.old; longs_after = H.longs shelf.new }) result }
+    ensures told { (n : List ℕ) → H.tells shelf.new n ≡ H.tells shelf.old n }
+{
+    let result = inputs(alloc, names.domain, names.problem, names.plan, shelf);
+    told(alloc, names, result)
+}
