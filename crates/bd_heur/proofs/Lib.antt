@@ -1,0 +1,9 @@
+pub mod OrderLemmas
+pub mod RoundLemmas
+pub mod ConsistentLemmas
+pub mod TableLemmas
+pub mod ReachLemmas
+pub mod CoreLemmas
+pub mod IndexLemmas
+pub mod SettlingLemmas
+pub mod RunningLemmas

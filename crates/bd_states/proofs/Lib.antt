@@ -1,0 +1,5 @@
+pub mod EntryLemmas
+pub mod ListLemmas
+pub mod SetLemmas
+pub mod ClosedLemmas
+pub mod WayLemmas
