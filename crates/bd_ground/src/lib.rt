@@ -27,10 +27,7 @@ mod narrowing;
 mod offers;
 mod parts;
 mod prices;
-mod sets;
-#[cfg(test)]
-mod tests;
-mod world;
+mod sets;mod world;
 
 pub use filling::{is_same, object_of};
 pub use grounding::ground;

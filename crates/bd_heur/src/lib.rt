@@ -23,6 +23,3 @@ pub use joining::{joined, value_at};
 pub use laws::{h_max_is_consistent, the_core_decides, values_are_columns};
 pub use running::runnable;
 pub use settling::values;
-
-#[cfg(test)]
-mod tests;

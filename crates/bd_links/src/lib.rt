@@ -27,6 +27,3 @@ pub use parts::{Child, Effects, Fault, Touches};
 pub use sets::adds_of_all;
 pub use touches::{deleters, givers, touches_of};
 pub use whole::{actions_fit, as_child, effects, node_cost};
-
-#[cfg(test)]
-mod tests;

@@ -18,6 +18,3 @@ mod window;
 pub use merging::merged;
 pub use standing::{Found, stands};
 pub use window::{Lean, Window};
-
-#[cfg(test)]
-mod tests;

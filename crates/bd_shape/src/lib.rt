@@ -26,6 +26,3 @@ pub use grouping::group;
 pub use hulls::{are_kids, are_members, has_between, hull};
 pub use restricting::restrict;
 pub use unordering::unorder;
-
-#[cfg(test)]
-mod tests;

@@ -11,6 +11,3 @@ mod ground;
 
 pub use fits::is_task;
 pub use ground::{Action, Task};
-
-#[cfg(test)]
-mod tests;

@@ -26,6 +26,3 @@ pub use reply::reply_text;
 pub use status::{Ended, File, Status};
 pub use summary::summary_text;
 pub use usage::USAGE;
-
-#[cfg(test)]
-mod tests;

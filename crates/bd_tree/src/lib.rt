@@ -28,6 +28,3 @@ pub use misfit::{MAX_DEPTH, Misfit, order_misfit};
 pub use node::{Node, NodeList};
 pub use spans::{Span, span_of};
 pub use tree::Tree;
-
-#[cfg(test)]
-mod tests;

@@ -19,6 +19,3 @@ mod values;
 mod whole;
 
 pub use whole::read_domain;
-
-#[cfg(test)]
-mod tests;

@@ -14,6 +14,3 @@ mod sections;
 mod whole;
 
 pub use whole::read_problem;
-
-#[cfg(test)]
-mod tests;

@@ -10,10 +10,7 @@ mod judging;
 mod laws;
 mod listing;
 mod meeting;
-mod resolving;
-#[cfg(test)]
-mod tests;
-mod texts;
+mod resolving;mod texts;
 
 pub use finding::find;
 pub use judging::{Judged, judge_call};

@@ -23,6 +23,3 @@ pub use judge::{BeginErr, Core, may_begin, rebuilds, replacements, tightenings};
 pub use law::offers_judged;
 pub use offer::Offer;
 pub use refusal::Refusal;
-
-#[cfg(test)]
-mod tests;

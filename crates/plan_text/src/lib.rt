@@ -10,6 +10,3 @@ mod printed;
 
 pub use calls::{one_plan, read_plan};
 pub use printed::print_plan;
-
-#[cfg(test)]
-mod tests;

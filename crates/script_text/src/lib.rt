@@ -14,10 +14,7 @@ mod nodes;
 mod offers;
 mod readers;
 mod script;
-mod sections;
-#[cfg(test)]
-mod tests;
-mod words;
+mod sections;mod words;
 
 pub use script::Script;
 pub use sections::{one_script, read_script};

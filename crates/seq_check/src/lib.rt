@@ -7,6 +7,3 @@
 mod judging;
 
 pub use judging::{Broken, validate};
-
-#[cfg(test)]
-mod tests;

@@ -15,6 +15,3 @@ mod steps;
 pub use answers::{Inputs, Part};
 pub use law::valid_plans;
 pub use stages::inputs;
-
-#[cfg(test)]
-mod tests;

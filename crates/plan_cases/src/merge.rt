@@ -2,41 +2,17 @@
 ghost use Rattle.std.specs.Prelude.{◌+◌, ◌<◌, ◌^◌, length, IfOk};
 ghost use Rattle.bd_tree.specs.Tree.{greatest, ids_of, nodes_of};
 
-use crate::{Found, Lean, Window, merged, stands};
-use bd_base::{ActionId, FromItems, Items, NoMemory, NodeId, PairList};
-use bd_tree::{Misfit, Node, NodeList, Tree};
+use crate::made::{block, step, steps};
+use bd_base::{ActionId, FromItems, Items, NoMemory, NodeId};
+use bd_merge::{Found, Lean, Window, merged, stands};
+use bd_tree::{Misfit, Node, Tree};
 use std::alloc::Global;
 use std::test::Fail;
 
-// Steps with these ids and actions.
-fn steps(alloc: Global, steps: &[(u64, u32)]) -> Result<NodeList, NoMemory> {
-    let mut kids = Vec::new(alloc);
-    for step in steps {
-        kids.push(Node::Step {
-            id: NodeId(step.0),
-            action: ActionId(step.1),
-        })?;
-    }
-    Ok(Items::of(kids))
-}
-
-fn block(alloc: Global, id: u64, kids: NodeList, pairs: &[(u32, u32)]) -> Result<Node, NoMemory> {
-    Ok(Node::Block {
-        id: NodeId(id),
-        kids,
-        order: PairList::of(alloc, pairs)?,
-    })
-}
-
 // A root of block 1 and a step after it. The block has three steps, of which the first is before the second.
 fn nested(alloc: Global, kids: &[(u64, u32)], pairs: &[(u32, u32)]) -> Result<Node, NoMemory> {
-    let mut outer = Vec::new(alloc);
-    outer.push(block(alloc, 1, steps(alloc, kids)?, pairs)?)?;
-    outer.push(Node::Step {
-        id: NodeId(5),
-        action: ActionId(14),
-    })?;
-    block(alloc, 0, Items::of(outer), &[(0, 1)])
+    let inner = block(alloc, 1, steps(alloc, kids)?, pairs)?;
+    block(alloc, 0, vec![in alloc; inner, step(5, 14)]?, &[(0, 1)])
 }
 
 // The tree with this root, where it has few nodes and ids below 6.
@@ -53,7 +29,7 @@ fn tree_of(alloc: Global, root: Node) -> Result<Tree, Misfit>
 fn window(alloc: Global, kids: &[(u64, u32)], lean: Lean) -> Result<Window, NoMemory> {
     Ok(Window {
         block: NodeId(1),
-        kids: steps(alloc, kids)?,
+        kids: Items::of(steps(alloc, kids)?),
         lean,
     })
 }

@@ -1,36 +1,22 @@
-use crate::read_problem;
-use bd_base::{FromItems, Items, NoMemory, Text, TextErr};
+use crate::made::{head, object_type, text};
+use bd_base::{FromItems, Items, NoMemory, TextErr};
 use pddl_lex::read_tree;
-use pddl_types::{Domain, Head, Problem, Thing, TypeDecl};
+use pddl_problem::read_problem;
+use pddl_types::{Domain, Problem, Thing};
 use std::alloc::Global;
 use std::test::Fail;
 
-fn head(alloc: Global, name: &[u8], arity: u32) -> Result<Items<Head>, NoMemory> {
-    let mut heads = Vec::new(alloc);
-    heads.push(Head {
-        name: Text::from_slice(alloc, name)?,
-        arity,
-    })?;
-    Ok(Items::of(heads))
-}
-
 // One type, one constant, one predicate and one function.
 fn domain(alloc: Global) -> Result<Domain, NoMemory> {
-    let mut types = Vec::new(alloc);
-    types.push(TypeDecl {
-        name: Text::from_slice(alloc, b"object")?,
-        parent: 0,
-    })?;
-    let mut constants = Vec::new(alloc);
-    constants.push(Thing {
-        name: Text::from_slice(alloc, b"c")?,
+    let constant = Thing {
+        name: text(alloc, "c")?,
         kind: 0,
-    })?;
+    };
     Ok(Domain {
-        types: Items::of(types),
-        constants: Items::of(constants),
-        predicates: head(alloc, b"at", 1)?,
-        functions: head(alloc, b"len", 1)?,
+        types: object_type(alloc)?,
+        constants: Items::of(vec![in alloc; constant]?),
+        predicates: Items::of(vec![in alloc; head(alloc, "at", 1)?]?),
+        functions: Items::of(vec![in alloc; head(alloc, "len", 1)?]?),
         schemas: Items::of(Vec::new(alloc)),
     })
 }

@@ -1,16 +1,12 @@
-use crate::ground;
-use bd_base::{ActionId, FactId, FromItems, Items, NoMemory, Text};
+use crate::made::{head, object_type, text};
+use bd_base::{ActionId, FactId, FromItems, Items, NoMemory};
+use bd_ground::ground;
 use bd_task::Task;
 use pddl_types::{
-    Atom, CostTerm, Domain, Given, Head, Problem, Schema, Term, Thing, TypeDecl, is_domain,
-    is_problem,
+    Atom, CostTerm, Domain, Given, Problem, Schema, Term, Thing, is_domain, is_problem,
 };
 use std::alloc::Global;
 use std::test::Fail;
-
-fn text(alloc: Global, name: &str) -> Result<Text, NoMemory> {
-    Ok(Items::of(name.as_bytes().to_vec(alloc)?))
-}
 
 fn atom(alloc: Global, head: u32, terms: &[Term]) -> Result<Atom, NoMemory> {
     Ok(Atom {
@@ -23,13 +19,6 @@ fn one(alloc: Global, head: u32, terms: &[Term]) -> Result<Items<Atom>, NoMemory
     let mut atoms = Vec::new(alloc);
     atoms.push(atom(alloc, head, terms)?)?;
     Ok(Items::of(atoms))
-}
-
-fn head(alloc: Global, name: &str, arity: u32) -> Result<Head, NoMemory> {
-    Ok(Head {
-        name: text(alloc, name)?,
-        arity,
-    })
 }
 
 // A drive from the first place to the second, along a road whose length it costs.
@@ -50,11 +39,6 @@ fn drive(alloc: Global) -> Result<Schema, NoMemory> {
 }
 
 fn roads(alloc: Global) -> Result<Domain, NoMemory> {
-    let mut types = Vec::new(alloc);
-    types.push(TypeDecl {
-        name: text(alloc, "object")?,
-        parent: 0,
-    })?;
     let mut predicates = Vec::new(alloc);
     predicates.push(head(alloc, "at", 1)?)?;
     predicates.push(head(alloc, "road", 2)?)?;
@@ -63,7 +47,7 @@ fn roads(alloc: Global) -> Result<Domain, NoMemory> {
     let mut schemas = Vec::new(alloc);
     schemas.push(drive(alloc)?)?;
     Ok(Domain {
-        types: Items::of(types),
+        types: object_type(alloc)?,
         constants: Items::of(Vec::new(alloc)),
         predicates: Items::of(predicates),
         functions: Items::of(functions),

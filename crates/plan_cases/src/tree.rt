@@ -2,40 +2,17 @@
 ghost use Rattle.std.specs.Prelude.{◌<◌, ◌^◌, IfOk};
 ghost use Rattle.bd_tree.specs.Tree.{nodes_of};
 
-use crate::{Misfit, Node, Tree, is_convex, order_misfit};
-use bd_base::{ActionId, FromItems, Items, NoMemory, NodeId, PairList};
+use crate::made::{block, step};
+use bd_base::{ActionId, NoMemory, NodeId, PairList};
+use bd_tree::{Misfit, Node, Tree, is_convex, order_misfit};
 use std::alloc::Global;
 use std::test::Fail;
 
-fn step(id: u64, action: u32) -> Node {
-    Node::Step {
-        id: NodeId(id),
-        action: ActionId(action),
-    }
-}
-
-fn block(
-    alloc: Global,
-    id: u64,
-    first: Node,
-    second: Node,
-    pairs: &[(u32, u32)],
-) -> Result<Node, NoMemory> {
-    let mut kids = Vec::new(alloc);
-    kids.push(first)?;
-    kids.push(second)?;
-    Ok(Node::Block {
-        id: NodeId(id),
-        kids: Items::of(kids),
-        order: PairList::of(alloc, pairs)?,
-    })
-}
-
 // A block of two steps that aren't ordered, and behind it one of two steps that are.
 fn two_blocks(alloc: Global) -> Result<Node, NoMemory> {
-    let first = block(alloc, 1, step(2, 5), step(3, 6), &[])?;
-    let second = block(alloc, 4, step(5, 6), step(6, 8), &[(0, 1)])?;
-    block(alloc, 0, first, second, &[(0, 1)])
+    let first = block(alloc, 1, vec![in alloc; step(2, 5), step(3, 6)]?, &[])?;
+    let second = block(alloc, 4, vec![in alloc; step(5, 6), step(6, 8)]?, &[(0, 1)])?;
+    block(alloc, 0, vec![in alloc; first, second]?, &[(0, 1)])
 }
 
 // The tree with this root, where it has few nodes.

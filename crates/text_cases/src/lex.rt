@@ -1,5 +1,5 @@
-use crate::{LexErr, Sexp, read_tree, read_trees};
 use bd_base::NoMemory;
+use pddl_lex::{LexErr, Sexp, read_tree, read_trees};
 use std::alloc::Global;
 use std::test::Fail;
 

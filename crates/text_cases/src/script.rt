@@ -1,8 +1,8 @@
-use crate::{Script, one_script, read_script};
 use bd_base::{Limit, NoMemory, NodeId, PairList, TextErr};
 use bd_merge::Lean;
 use bd_tree::Node;
 use plan_core::Offer;
+use script_text::{Script, one_script, read_script};
 use std::alloc::Global;
 use std::test::Fail;
 

@@ -1,5 +1,5 @@
-use crate::read_domain;
 use bd_base::{Cause, TextErr};
+use pddl_domain::read_domain;
 use pddl_lex::read_tree;
 use pddl_types::Domain;
 use std::alloc::Global;

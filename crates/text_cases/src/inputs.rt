@@ -1,7 +1,7 @@
-use crate::{Inputs, inputs};
 use bd_base::{MemShelf, NoMemory, Text};
 use std::alloc::Global;
 use std::test::Fail;
+use task_inputs::{Inputs, inputs};
 
 const DOMAIN: &[u8] = b"(define (domain d) (:predicates (on)) (:action go :effect (on)))";
 

@@ -3,14 +3,13 @@
 ghost use Rattle.std.specs.Prelude.{◌+◌, ◌<◌, ◌^◌, length, IfOk};
 ghost use Rattle.plan_core.specs.Replies.{IsLent};
 
-use crate::{BeginErr, Core, Offer, Refusal, may_begin, rebuilds, replacements, tightenings};
-use bd_base::{
-    ActList, ActionId, FactId, FactSet, FromItems, IdList, Items, NoMemory, NodeId, PairList,
-};
+use crate::made::{action, steps, task_of};
+use bd_base::{ActList, ActionId, FactId, FromItems, IdList, Items, NoMemory, NodeId, PairList};
 use bd_links::Fault;
 use bd_merge::{Lean, Window};
-use bd_task::{Action, Task, is_task};
-use bd_tree::{Node, Tree};
+use bd_task::{Action, Task};
+use bd_tree::Tree;
+use plan_core::{BeginErr, Core, Offer, Refusal, may_begin, rebuilds, replacements, tightenings};
 use std::alloc::Global;
 use std::test::Fail;
 
@@ -23,41 +22,19 @@ const AC: ActionId = ActionId(2);
 
 const REST: ActionId = ActionId(3);
 
-fn set(alloc: Global, facts: &[u32]) -> Result<FactSet, NoMemory> {
-    let mut items = Vec::new(alloc);
-    for f in facts {
-        items.push(FactId(*f))?;
-    }
-    FactSet::of(items)
-}
-
-fn action(alloc: Global, cost: u64, from: &[u32], to: &[u32]) -> Result<Action, NoMemory> {
-    Ok(Action {
-        name: Items::of(Vec::new(alloc)),
-        cost,
-        pre: set(alloc, from)?,
-        add: set(alloc, to)?,
-        del: set(alloc, from)?,
-    })
+// An action that takes some facts for others.
+fn way(alloc: Global, cost: u64, from: &[u32], to: &[u32]) -> Result<Action, NoMemory> {
+    action(alloc, cost, from, to, from)
 }
 
 // From a to c, of the facts a, b and c.
 fn task(alloc: Global) -> Result<Option<Task>, NoMemory> {
-    let mut facts = Vec::new(alloc);
-    for _ in 0..3 {
-        facts.push(Items::of(Vec::new(alloc)))?;
-    }
     let mut actions = Vec::new(alloc);
-    actions.push(action(alloc, 3, &[0], &[1])?)?;
-    actions.push(action(alloc, 3, &[1], &[2])?)?;
-    actions.push(action(alloc, 2, &[0], &[2])?)?;
-    actions.push(action(alloc, 1, &[], &[])?)?;
-    let init = set(alloc, &[0])?;
-    let goal = set(alloc, &[2])?;
-    if !is_task(&facts, &actions, &init, &goal) {
-        return Ok(None);
-    }
-    Ok(Some(Task::new(facts, actions, init, goal)))
+    actions.push(way(alloc, 3, &[0], &[1])?)?;
+    actions.push(way(alloc, 3, &[1], &[2])?)?;
+    actions.push(way(alloc, 2, &[0], &[2])?)?;
+    actions.push(way(alloc, 1, &[], &[])?)?;
+    task_of(alloc, 3, actions, &[0], &[2])
 }
 
 // What is told where a core is to open on the chain of a plan, if it may.
@@ -92,13 +69,7 @@ fn replacing(alloc: Global, list: &[ActionId]) -> Result<Offer, NoMemory>
     requires { length list.now < 2 ^ 32 }
     ensures { IfOk result (λ offer. IsLent offer) }
 {
-    let mut kids = Vec::new(alloc);
-    for (id, action) in [(1, AB), (2, BC)] {
-        kids.push(Node::Step {
-            id: NodeId(id),
-            action,
-        })?;
-    }
+    let kids = steps(alloc, &[(1, AB.0), (2, BC.0)])?;
     Ok(Offer::Replace {
         window: Window {
             block: NodeId(0),

@@ -1,6 +1,7 @@
 // Each call that takes memory once where there is enough, on trees whose shapes are worked by hand.
-use crate::{can_group, can_unorder, group, hull, restrict, unorder};
-use bd_base::{ActionId, FromItems, Items, NoMemory, NodeId, PairList};
+use crate::made::{block, step};
+use bd_base::{ActionId, NoMemory, NodeId};
+use bd_shape::{can_group, can_unorder, group, hull, restrict, unorder};
 use bd_tree::{Node, Tree};
 use std::alloc::Global;
 use std::test::Fail;
@@ -18,28 +19,12 @@ fn chain(alloc: Global, n: u32) -> Result<Tree, NoMemory> {
 }
 
 // A block of steps with these ids, each with its id as its action.
-fn block(alloc: Global, id: u64, steps: &[u32], pairs: &[(u32, u32)]) -> Result<Node, NoMemory> {
+fn of_steps(alloc: Global, id: u64, steps: &[u32], pairs: &[(u32, u32)]) -> Result<Node, NoMemory> {
     let mut kids = Vec::new(alloc);
-    for step in steps {
-        kids.push(Node::Step {
-            id: NodeId(*step as u64),
-            action: ActionId(*step),
-        })?;
+    for n in steps {
+        kids.push(step(*n as u64, *n))?;
     }
-    blocked(alloc, id, kids, pairs)
-}
-
-fn blocked(
-    alloc: Global,
-    id: u64,
-    kids: Vec<Node>,
-    pairs: &[(u32, u32)],
-) -> Result<Node, NoMemory> {
-    Ok(Node::Block {
-        id: NodeId(id),
-        kids: Items::of(kids),
-        order: PairList::of(alloc, pairs)?,
-    })
+    block(alloc, id, kids, pairs)
 }
 
 // The tree with kids of the root grouped, if they may be.
@@ -57,14 +42,9 @@ fn grouped(
 
 // Block 7 has the first two steps of a chain of five, block 8 the next two, and the last step comes after both.
 fn halves(alloc: Global) -> Result<Node, NoMemory> {
-    let mut kids = Vec::new(alloc);
-    kids.push(block(alloc, 7, &[1, 2], &[(0, 1)])?)?;
-    kids.push(block(alloc, 8, &[3, 4], &[(0, 1)])?)?;
-    kids.push(Node::Step {
-        id: NodeId(5),
-        action: ActionId(5),
-    })?;
-    blocked(alloc, 0, kids, &[(0, 2), (1, 2)])
+    let first = of_steps(alloc, 7, &[1, 2], &[(0, 1)])?;
+    let second = of_steps(alloc, 8, &[3, 4], &[(0, 1)])?;
+    block(alloc, 0, vec![in alloc; first, second, step(5, 5)]?, &[(0, 2), (1, 2)])
 }
 
 fn parted(alloc: Global, tree: &Tree) -> Result<Option<Tree>, NoMemory> {
@@ -92,9 +72,9 @@ fn a_chain_is_parted(rt: HostRuntime) -> Result<(), Fail> {
 #[test]
 fn a_block_is_restricted(rt: HostRuntime) -> Result<(), Fail> {
     let alloc = rt.alloc();
-    let all = block(alloc, 9, &[1, 2, 3, 4], &[(0, 1), (0, 3), (1, 3)])?;
+    let all = of_steps(alloc, 9, &[1, 2, 3, 4], &[(0, 1), (0, 3), (1, 3)])?;
     let part = restrict(alloc, &all, &[NodeId(4), NodeId(2), NodeId(3)])?;
-    assert!(rt; part.same(&block(alloc, 9, &[2, 3, 4], &[(0, 2)])?));
+    assert!(rt; part.same(&of_steps(alloc, 9, &[2, 3, 4], &[(0, 2)])?));
     Ok(())
 }
 

@@ -1,13 +1,14 @@
 // Values worked by hand, and each call that takes memory once with ample memory.
 ghost use Rattle.std.specs.Prelude.{◌+◌, ◌<◌, ◌^◌, length};
 
-use crate::{
+use crate::made::{action, step, task_of};
+use bd_base::{ActionId, FactId, FactSet, NoMemory, PairList};
+use bd_links::{
     Effects, Fault, Touches, actions_fit, adds_of_all, all_later, as_child, check, deleters,
     effects, givers, is_linked, node_cost, touches_of,
 };
-use bd_base::{ActionId, FactId, FactSet, FromItems, Items, NoMemory, NodeId, PairList};
-use bd_task::{Action, Task, is_task};
-use bd_tree::{Node, Tree};
+use bd_task::Task;
+use bd_tree::Tree;
 use std::alloc::Global;
 use std::test::Fail;
 
@@ -25,46 +26,13 @@ const GET: ActionId = ActionId(1);
 
 const BACK: ActionId = ActionId(2);
 
-fn set(alloc: Global, facts: &[u32]) -> Result<FactSet, NoMemory> {
-    let mut items = Vec::new(alloc);
-    for f in facts {
-        items.push(FactId(*f))?;
-    }
-    FactSet::of(items)
-}
-
-fn action(
-    alloc: Global,
-    cost: u64,
-    pre: &[u32],
-    add: &[u32],
-    del: &[u32],
-) -> Result<Action, NoMemory> {
-    Ok(Action {
-        name: Items::of(Vec::new(alloc)),
-        cost,
-        pre: set(alloc, pre)?,
-        add: set(alloc, add)?,
-        del: set(alloc, del)?,
-    })
-}
-
 // From a, get x and come back.
 fn trip(alloc: Global) -> Result<Option<Task>, NoMemory> {
-    let mut facts = Vec::new(alloc);
-    for _ in 0..3 {
-        facts.push(Items::of(Vec::new(alloc)))?;
-    }
     let mut actions = Vec::new(alloc);
     actions.push(action(alloc, 3, &[A], &[B], &[A])?)?;
     actions.push(action(alloc, 1, &[B], &[X], &[])?)?;
     actions.push(action(alloc, 3, &[B], &[A], &[B])?)?;
-    let init = set(alloc, &[A])?;
-    let goal = set(alloc, &[A, X])?;
-    if !is_task(&facts, &actions, &init, &goal) {
-        return Ok(None);
-    }
-    Ok(Some(Task::new(facts, actions, init, goal)))
+    task_of(alloc, 3, actions, &[A], &[A, X])
 }
 
 // What the check tells of the chain of a list.
@@ -127,10 +95,7 @@ fn are_kids_told(alloc: Global, task: &Task, actions: &[ActionId]) -> Result<boo
     let order = PairList::of(alloc, &[(0, 1), (0, 2)])?;
     let mut kids = Vec::new(alloc);
     for action in actions {
-        let step = Node::Step {
-            id: NodeId(1),
-            action: *action,
-        };
+        let step = step(1, action.0);
         if actions_fit(task, &step) {
             kids.push(as_child(alloc, task, &step)?)?;
         }

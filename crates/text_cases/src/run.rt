@@ -1,9 +1,9 @@
 ghost use Rattle.std.specs.Prelude.{◌≡◌, length};
 ghost use Rattle.plan_core.specs.Law.{IsPrintable};
 
-use crate::{End, RunRecord, better_text, reply_text, run_alone, summary_text};
 use bd_base::{FactSet, MemShelf, MemSink, NoMemory, Text};
 use bd_task::Task;
+use bd_top::{End, RunRecord, better_text, reply_text, run_alone, summary_text};
 use plan_core::Refusal;
 use std::alloc::Global;
 use std::test::Fail;
