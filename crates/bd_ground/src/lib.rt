@@ -27,7 +27,8 @@ mod narrowing;
 mod offers;
 mod parts;
 mod prices;
-mod sets;mod world;
+mod sets;
+mod world;
 
 pub use filling::{is_same, object_of};
 pub use grounding::ground;

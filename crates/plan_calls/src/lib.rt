@@ -10,7 +10,8 @@ mod judging;
 mod laws;
 mod listing;
 mod meeting;
-mod resolving;mod texts;
+mod resolving;
+mod texts;
 
 pub use finding::find;
 pub use judging::{Judged, judge_call};

@@ -44,7 +44,12 @@ fn grouped(
 fn halves(alloc: Global) -> Result<Node, NoMemory> {
     let first = of_steps(alloc, 7, &[1, 2], &[(0, 1)])?;
     let second = of_steps(alloc, 8, &[3, 4], &[(0, 1)])?;
-    block(alloc, 0, vec![in alloc; first, second, step(5, 5)]?, &[(0, 2), (1, 2)])
+    block(
+        alloc,
+        0,
+        vec![in alloc; first, second, step(5, 5)]?,
+        &[(0, 2), (1, 2)],
+    )
 }
 
 fn parted(alloc: Global, tree: &Tree) -> Result<Option<Tree>, NoMemory> {

@@ -14,7 +14,8 @@ mod nodes;
 mod offers;
 mod readers;
 mod script;
-mod sections;mod words;
+mod sections;
+mod words;
 
 pub use script::Script;
 pub use sections::{one_script, read_script};
