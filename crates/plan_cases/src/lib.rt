@@ -9,6 +9,8 @@
 #[cfg(test)]
 mod cores;
 #[cfg(test)]
+mod family;
+#[cfg(test)]
 mod heuristics;
 #[cfg(test)]
 mod links;

@@ -1,0 +1,9 @@
+pub mod Layers
+pub mod Local
+pub mod Members
+pub mod Sets
+pub mod Hulls
+pub mod Upto
+pub mod Whole
+pub mod Within
+pub mod Standing
