@@ -10,4 +10,4 @@ pub mod NewLemmas
 mod ParentLemmas
 pub mod EndLemmas
 pub mod ForestLemmas
-mod LevelLemmas
+mod SkipLemmas

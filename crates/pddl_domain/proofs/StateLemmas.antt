@@ -1,9 +1,8 @@
 -- What is read of conditions and effects speaks of what is declared.
-use Rattle.std.proofs.Common.{◌≡◌, ℕ, ◌-◌, Bool, true, false, cond, List, [], ◌∷◌, Ok, length, subst}
+use Rattle.std.proofs.Common.{◌≡◌, ℕ, Bool, true, false, cond, List, [], ◌∷◌, Ok, length, subst}
 use Rattle.std.specs.Prelude.{codes}
 use Rattle.std.specs.List.{AllByRecursion}
 use Rattle.std.specs.Str.{bytes_eq}
-use Rattle.bd_base.specs.declared.text_err.Cause.TheVariants as cause
 use Rattle.pddl_lex.specs.declared.sexp.Sexp.{Sexp}
 use Rattle.pddl_lex.specs.declared.sexp.Sexp.TheOpen.{Sexp-F}
 use Rattle.pddl_lex.specs.declared.sexp.Sexp.TheViews.{out-Sexp}

@@ -1,7 +1,6 @@
 -- Preconditions, part by part.
 use Rattle.std.specs.Prelude.{ℕ, cond, List, [], ◌∷◌, ◌++◌, Result, Ok, codes}
 use Rattle.std.specs.Str.{bytes_eq}
-use Rattle.bd_base.specs.declared.text_err.Cause.TheVariants as cause
 use Rattle.pddl_lex.specs.declared.sexp.Sexp.{Sexp}
 use Rattle.pddl_form.specs.Fault.{Fault, ◌>>=◌}
 use Rattle.pddl_form.specs.Trees.{Headed, head_at, first_at}

@@ -1,6 +1,6 @@
 pub mod Outline
 pub mod Types
-pub mod Levels
+pub mod Skips
 pub mod Heads
 pub mod Conditions
 pub mod Params

@@ -3,11 +3,7 @@ use Rattle.std.specs.Prelude.{ℕ, map}
 use Rattle.std.specs.Option.{option_map}
 use Rattle.pddl_form.specs.Trees.{Named}
 use Rattle.pddl_domain.specs.Outline.{Outline}
-use Rattle.pddl_form.specs.Groups.{groups}
-use Rattle.pddl_form.specs.declared.words.Named as code_named
-use Rattle.pddl_form.specs.declared.words.Headed as code_headed
 use Rattle.pddl_domain.specs.declared.sections.Sections.{Sections}
-use Rattle.pddl_form.specs.declared.groups.Group as code_group
 use Rattle.pddl_domain.specs.Types.{Types}
 use Rattle.pddl_domain.specs.Domain.{Declared}
 use Rattle.pddl_domain.specs.Conditions.{Condition}
@@ -16,10 +12,8 @@ use Rattle.pddl_domain.specs.Actions.{Fields}
 use Rattle.pddl_domain.specs.declared.values.Fields as code_fields
 use Rattle.pddl_domain.specs.declared.effects.Effect as code_effect
 use Rattle.pddl_domain.specs.declared.conditions.Condition as code_condition
-use Rattle.pddl_form.specs.declared.terms.Scope as code_scope
 use Rattle.pddl_domain.specs.declared.type_table.Types as code_types
 use Rattle.pddl_domain.specs.declared.types.Known as code_mention
-use Rattle.pddl_form.specs.declared.table.Table as code_table
 use Rattle.pddl_domain.specs.declared.reading.Declared as code_declared
 use Rattle.pddl_form.specs.Sight.{headed_of, named_of, table_of}
 

@@ -1,7 +1,7 @@
-ghost use Rattle.std.specs.Prelude.{◌≡◌, ◌<◌, ◌+◌, [], length, map, IfOk, Some, slice_set};
+ghost use Rattle.std.specs.Prelude.{◌≡◌, [], map, IfOk, MatchOption, None, Some, slice_set};
 ghost use Rattle.std.specs.Option.{option_map};
 ghost use Rattle.pddl_form.specs.Fault.{Gives};
-ghost use Rattle.pddl_domain.specs.Levels.{first_level, level_at, AreRisen, AreRisenTo};
+ghost use Rattle.pddl_domain.specs.Skips.{Leads, AreSkips};
 ghost use Rattle.pddl_domain.specs.Types.{only_object, mention, mention_all, mention_kind, parent_at, reaches, give, give_by, give_all, type_group, types_from};
 ghost use Rattle.pddl_form.specs.Sight.{named_of, group_of, left};
 ghost use Rattle.pddl_domain.specs.Sight.{types_of, mention_of};
@@ -27,12 +27,12 @@ impl<'a> Types<'a> {
         names.declare(b"object")?;
         let mut parents = Vec::new(alloc);
         parents.push(None)?;
-        let mut levels = Vec::new(alloc);
-        levels.push(first_level(0))?;
+        let mut skips = Vec::new(alloc);
+        skips.push(None)?;
         Ok(Types {
             names,
             parents,
-            levels,
+            skips,
         })
     }
 }
@@ -47,17 +47,16 @@ fn mention<'a>(name: &'a [u8], types: Types<'a>) -> Result<(u32, Types<'a>), NoM
             let Types {
                 mut names,
                 mut parents,
-                mut levels,
+                mut skips,
             } = types;
             let id = names.len();
             names.add(name)?;
             parents.push(None)?;
-            let level = next_level(&levels);
-            levels.push(level)?;
+            skips.push(None)?;
             let types = Types {
                 names,
                 parents,
-                levels,
+                skips,
             };
             Ok((id, types))
         }
@@ -118,126 +117,103 @@ fn reaches(parents: &[Option<u32>], i: u32, start: Option<u32>) -> bool
     at == Some(i)
 }
 
-// The level that a type begins with, by how many types were named before it.
-fn first_level(count: usize) -> u32
-    ensures { result ≡ first_level count }
+// The list with k at i, where it is that long.
+fn set_at(i: u32, k: u32, mut list: Vec<Option<u32>>) -> Vec<Option<u32>>
+    ensures { result.items ≡ slice_set list.items i (Some k) }
 {
-    if count > 2_147_483_648 {
-        return 0;
+    if let Some(item) = list.get_mut(i as usize) {
+        *item = Some(k);
     }
-    2_147_483_648 - count as u32
+    list
 }
 
-fn next_level(levels: &[u32]) -> u32
-    ensures { result ≡ first_level (length levels.now) }
-{
-    first_level(levels.len())
-}
-
-fn level_at(levels: &[u32], k: u32) -> u32
-    ensures { result ≡ level_at levels.now k }
-{
-    match levels.get(k as usize) {
-        None => first_level(k as usize),
-        Some(level) => *level,
-    }
-}
-
-// Each type is one of those that have a level, and no level comes near this bound.
-fn with_level(k: u32, level: u32, mut levels: Vec<u32>) -> Result<Vec<u32>, NoMemory>
-    ensures { IfOk result (λ v. (k < length levels.items) × (v.items ≡ slice_set levels.items k level)) }
-{
-    match levels.get_mut(k as usize) {
-        None => Err(NoMemory),
-        Some(old) => {
-            *old = level;
-            Ok(levels)
-        }
-    }
-}
-
-fn one_more(level: u32) -> Result<u32, NoMemory>
-    ensures { IfOk result (λ n. n ≡ level + 1) }
-{
-    if level == u32::MAX {
-        return Err(NoMemory);
-    }
-    Ok(level + 1)
-}
-
-// The type is at least of the level, and those above it rise as much as they must.
-fn raised(
-    parents: &[Option<u32>],
-    start: u32,
-    level: u32,
-    levels: Vec<u32>,
-) -> Result<Vec<u32>, NoMemory>
-    requires { AreRisenTo parents.now levels.items (Some start) level }
-    ensures { IfOk result (λ v. AreRisen parents.now v.items) }
-{
-    let mut levels = levels;
-    let mut at = Some(start);
-    let mut need = level;
-    for _step in parents {
-        match at {
-            None => return Ok(levels),
-            Some(k) => {
-                if level_at(&levels, k) >= need {
-                    return Ok(levels);
-                }
-                levels = with_level(k, need, levels)?;
-                at = parent_at(parents, k);
-                need = one_more(need)?;
-            }
-        }
-    }
-    match at {
-        None => Ok(levels),
-        Some(k) => {
-            if level_at(&levels, k) >= need {
-                return Ok(levels);
-            }
-            Err(NoMemory)
-        }
-    }
-}
-
-fn set_parent(i: u32, k: u32, mut parents: Vec<Option<u32>>) -> Vec<Option<u32>>
-    ensures { result.items ≡ slice_set parents.items i (Some k) }
-{
-    if let Some(parent) = parents.get_mut(i as usize) {
-        *parent = Some(k);
-    }
-    parents
-}
-
-fn with_parent<'a>(i: u32, k: u32, types: Types<'a>) -> Result<Types<'a>, NoMemory>
-    ensures names { IfOk result (λ t. t.names ≡ types.entry.names) }
-    ensures parents { IfOk result (λ t. t.parents.items ≡ slice_set types.entry.parents.items i (Some k)) }
+fn with_parent<'a>(i: u32, k: u32, types: Types<'a>) -> Types<'a>
+    requires { parent_at types.parents.items i ≡ None }
+    ensures names { result.names ≡ types.entry.names }
+    ensures parents { result.parents.items ≡ slice_set types.entry.parents.items i (Some k) }
 {
     let Types {
         names,
         parents,
-        levels,
+        skips,
     } = types;
-    let need = one_more(level_at(&levels, i))?;
-    let parents = set_parent(i, k, parents);
-    let levels = raised(&parents, k, need, levels)?;
-    Ok(Types {
+    let parents = set_at(i, k, parents);
+    Types {
         names,
         parents,
-        levels,
-    })
+        skips,
+    }
 }
 
-// Whether the parent is the type, or lies under it. A type of a lower level is none that it lies under.
-fn is_under(types: &Types<'_>, i: u32, k: u32) -> bool
-    ensures { result ≡ reaches types.now.parents.items types.now.parents.items i (Some k) }
+// The next type above, by a skip where there is one.
+fn next_up(parents: &[Option<u32>], skips: &[Option<u32>], k: u32) -> Option<u32>
+    requires { AreSkips parents.now skips.now }
+    ensures { MatchOption result (parent_at parents.now k ≡ None) (λ u. Leads parents.now k u) }
 {
-    if level_at(&types.levels, i) < level_at(&types.levels, k) {
-        return false;
+    match parent_at(skips, k) {
+        None => parent_at(parents, k),
+        Some(u) => Some(u),
     }
-    reaches(&types.parents, i, Some(k))
+}
+
+// The type that the chain of parents ends in. Each second type on the way gets a longer skip.
+fn climbed(parents: &[Option<u32>], start: u32, skips: Vec<Option<u32>>) -> (u32, Vec<Option<u32>>)
+    requires { AreSkips parents.now skips.items }
+    ensures above { Leads parents.now start result.0 }
+    ensures skips { AreSkips parents.now result.1.items }
+{
+    let mut skips = skips;
+    let mut at = start;
+    for _step in parents {
+        match next_up(parents, &skips, at) {
+            None => return (at, skips),
+            Some(next) => match next_up(parents, &skips, next) {
+                None => return (next, skips),
+                Some(far) => {
+                    skips = set_at(at, far, skips);
+                    at = far;
+                }
+            },
+        }
+    }
+    (at, skips)
+}
+
+// Whether k is the type i, which has no parent, or lies under it. Where the chain from k ends in another type, it isn't.
+fn is_under<'a>(i: u32, k: u32, types: Types<'a>) -> (bool, Types<'a>)
+    requires { parent_at types.parents.items i ≡ None }
+    ensures told { result.0 ≡ reaches types.entry.parents.items types.entry.parents.items i (Some k) }
+    ensures same { types_of result.1 ≡ types_of types.entry }
+{
+    let Types {
+        names,
+        parents,
+        skips,
+    } = types;
+    let (top, skips) = climbed(&parents, k, skips);
+    let under = is_above(&parents, i, k, top);
+    let types = Types {
+        names,
+        parents,
+        skips,
+    };
+    (under, types)
+}
+
+fn is_above(parents: &[Option<u32>], i: u32, k: u32, top: u32) -> bool
+    requires root { parent_at parents.now i ≡ None }
+    requires above { Leads parents.now k top }
+    ensures { result ≡ reaches parents.now parents.now i (Some k) }
+{
+    match parent_at(parents, top) {
+        None => {
+            if top != i {
+                return false;
+            }
+            reaches(parents, i, Some(k))
+        }
+        Some(_) => reaches(parents, i, Some(k)),
+    }
 }
 
 // The type, which isn't `object`, gets the parent.
@@ -257,8 +233,9 @@ fn give_by<'a>(
             }
         }
         None => {
-            if !is_under(&types, i, k) {
-                return Ok(with_parent(i, k, types)?);
+            let (under, types) = is_under(i, k, types);
+            if !under {
+                return Ok(with_parent(i, k, types));
             }
         }
     }
