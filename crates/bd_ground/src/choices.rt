@@ -111,11 +111,32 @@ fn last_fits(domain: &Domain, problem: &Problem, kinds: &[u32], chosen: &[u32]) 
 const CELLS: usize = 8;
 
 impl<'a> World<'a> {
-    /// The value of a function at objects.
-    pub fn value(&self, g: &[u32]) -> Option<u64>
+    // The value of a function at objects.
+    fn value(&self, g: &[u32]) -> Option<u64>
         ensures { result ≡ value_at self.now.problem.now.values g.now }
     {
         self.prices.value(g)
+    }
+
+    // The value of a function with few arguments. It takes no memory.
+    fn short_value(&self, args: &[u32], a: &Atom) -> Option<u64>
+        requires { length a.now.args < 8 }
+        ensures { result ≡ value_at self.now.problem.now.values (filled_by args.now a.now) }
+    {
+        let mut cells = [0; CELLS];
+        fill(args, a, &mut cells);
+        self.value(&cells[..a.args.len() + 1])
+    }
+
+    /// The value of a function where the parameters stand for these objects.
+    pub fn value_of(&self, alloc: Global, args: &[u32], a: &Atom) -> Result<Option<u64>, NoMemory>
+        ensures { IfOk result (λ v. v ≡ value_at self.now.problem.now.values (filled_by args.now a.now)) }
+    {
+        if a.args.len() < CELLS {
+            return Ok(self.short_value(args, a));
+        }
+        let g = filled(alloc, args, a)?;
+        Ok(self.value(&g))
     }
 
     // Whether a short atom is stated. It takes no memory.

@@ -17,7 +17,7 @@ pub fn table_of(alloc: Global, list: &[Atom]) -> Result<Atoms, NoMemory>
     requires { length list.now < 2 ^ 32 }
     ensures { IfOk result (λ atoms. atoms ≡ mentioned_after [] (filled_all [] list.now)) }
 {
-    let mut atoms = Atoms::new(alloc);
+    let mut atoms = Atoms::with_room(alloc, list.len())?;
     for a in list {
         atoms.mention(filled(alloc, &[], a)?)?;
     }
