@@ -9,6 +9,17 @@ writes FOLDER/domain.pddl, problem.pddl and plan. The kinds:
     chain    a schema of six parameters over N objects, whose static atoms allow 10 * N instances
     pairs    a schema of two parameters over N objects, whose N * N instances all stand
     more     `pairs`, and one instance more
+
+Texts of N megabytes, to measure the readers alone; the plan is `(none)`, which is told at once:
+
+    init     many atoms that hold at first
+    values   many values of a function
+    objects  60,000 objects for 16 MB, each with its type
+    onelist  one typed list of 60,000 names for 16 MB
+    deep     goals in 90 lists in one another
+    flat     types under one type
+    up, down types in one chain, given from below and from above
+    mixed    a chain of types, and types that come under its lowest one, one after the other
 """
 import os
 import sys
@@ -59,7 +70,63 @@ def pairs(n, more=False):
     return domain, problem, "(take o0 o1)\n"
 
 
-KINDS = {"roads": roads, "chain": chain, "pairs": pairs, "more": lambda n: pairs(n, True)}
+PLACES = 1000
+TEXT = """(define (domain d) (:types t) (:predicates (at ?x - t) (road ?x ?y))
+  (:functions (total-cost) - number (len ?x ?y) - number)
+  (:action go :parameters (?x - t) :precondition (at ?x) :effect (at ?x)))
+"""
+
+
+def filled(size, item):
+    """As many items as the size takes, one a line."""
+    found, left, k = [], size, 0
+    while True:
+        one = item(k)
+        left -= len(one) + 1
+        if left < 0:
+            return "\n".join(found)
+        found.append(one)
+        k += 1
+
+
+def problem_of(objects, init, goal="(and)"):
+    return TEXT, f"(define (problem p) (:domain d) (:objects {objects})\n(:init {init})\n(:goal {goal}))\n", "(none)\n"
+
+
+def domain_of(types):
+    return f"(define (domain d) (:types {types}))\n", "(define (problem p) (:init) (:goal (and)))\n", "(none)\n"
+
+
+def text(kind, megabytes):
+    size = megabytes * 1024 * 1024 - 9000
+    places = " ".join(f"l{k}" for k in range(PLACES))
+    pair = lambda k: f"l{k % PLACES} l{k // PLACES % PLACES}"
+    if kind == "init":
+        return problem_of(places, filled(size, lambda k: f"(road {pair(k)})"))
+    if kind == "values":
+        return problem_of(places, filled(size, lambda k: f"(= (len {pair(k)}) {k})"))
+    count = 60_000 * megabytes // 16
+    if kind == "objects":
+        return problem_of(" ".join(f"o{k:0{size // count - 6}d} - t" for k in range(count)), "")
+    if kind == "onelist":
+        return problem_of(" ".join(f"o{k:0{size // count - 2}d}" for k in range(count)), "")
+    if kind == "deep":
+        one = "(and " * 90 + "(at l0)" + ")" * 90
+        return problem_of("l0", "", f"(and {filled(size, lambda k: one)})")
+    count = size // 19
+    if kind == "flat":
+        return domain_of(" ".join(f"a{k} - a0" for k in range(1, count)))
+    if kind == "up":
+        return domain_of(" ".join(f"a{k} - a{k + 1}" for k in range(count)))
+    if kind == "down":
+        return domain_of(" ".join(f"a{k} - a{k - 1}" for k in range(count, 0, -1)))
+    count = size // 60
+    chain = [f"c{k} - c{k + 1}" for k in range(count)]
+    return domain_of(" ".join([f"x{k} - b{k}" for k in range(count)] + chain + [f"b{k} - c0" for k in range(count - 1, -1, -1)]))
+
+
+KINDS = {kind: lambda n, kind=kind: text(kind, n) for kind in "init values objects onelist deep flat up down mixed".split()}
+KINDS |= {"roads": roads, "chain": chain, "pairs": pairs, "more": lambda n: pairs(n, True)}
 
 
 def main():
