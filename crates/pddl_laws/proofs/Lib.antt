@@ -1,0 +1,12 @@
+mod TermLemmas
+mod ConditionLemmas
+mod EffectLemmas
+mod ParamLemmas
+mod PlaceLemmas
+mod TypesLemmas
+mod FunctionLemmas
+mod ActionLemmas
+mod OutlineLemmas
+mod StatedLemmas
+mod GroupLemmas
+mod WholeLemmas

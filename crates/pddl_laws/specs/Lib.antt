@@ -1,0 +1,10 @@
+pub mod Terms
+pub mod Conditions
+pub mod Effects
+pub mod Params
+pub mod Types
+pub mod Functions
+pub mod Actions
+pub mod Outlines
+pub mod Stated
+pub mod Whole
