@@ -4,12 +4,12 @@ ghost use Rattle.std.specs.Prelude.{◌+◌, ◌<◌, ◌^◌, length, IfOk};
 ghost use Rattle.plan_core.specs.Replies.{IsLent};
 
 use crate::made::{action, steps, task_of};
-use bd_base::{ActList, ActionId, FactId, FromItems, IdList, Items, NoMemory, NodeId, PairList};
+use bd_base::{ActList, ActionId, FactId, FromItems, IdList, Items, NoMemory, NodeId};
 use bd_links::Fault;
 use bd_merge::{Lean, Window};
 use bd_task::{Action, Task};
 use bd_tree::Tree;
-use plan_core::{BeginErr, Core, Offer, Refusal, may_begin, rebuilds, replacements, tightenings};
+use plan_core::{BeginErr, Core, Offer, Refusal, may_begin, replacements, tightenings};
 use std::alloc::Global;
 use std::test::Fail;
 
@@ -97,59 +97,43 @@ fn replies(alloc: Global, core: &mut Core, offer: &Offer, reply: Result<u64, Ref
     core.offer(alloc, offer) == reply
 }
 
-// Whether a loosening, a replacement and a rebuild are accepted, in this order.
-fn accepts_three(alloc: Global, core: &mut Core) -> Result<bool, NoMemory> {
-    let first = loosening(alloc)?;
-    let second = replacing(alloc, &[AC])?.try_copy(alloc)?;
-    let third = Offer::Rebuild {
-        order: PairList::of(alloc, &[])?,
-    };
-    Ok(
-        replies(alloc, core, &first, Ok(1))
-            && replies(alloc, core, &second, Ok(2))
-            && replies(alloc, core, &third, Ok(3)),
-    )
-}
-
 fn is_listed(alloc: Global, tree: &Tree, list: &[ActionId]) -> Result<bool, NoMemory> {
     Ok(tree.listed(alloc)?.as_slice() == list)
 }
 
-// Whether the core comes apart into its task, its start tree, an offer of each kind, and its tree.
+// Whether the core comes apart into its task, its start tree, its one tightening, and its tree.
 fn comes_apart(alloc: Global, core: Core) -> Result<bool, NoMemory> {
     let (task, start, history, tree) = core.into_parts();
     Ok(
         task.actions() == 4
             && is_listed(alloc, &start, &[AB, BC, REST, REST])?
-            && (
-                replacements(&history),
-                tightenings(&history),
-                rebuilds(&history),
-            ) == (1, 1, 1)
-            && is_listed(alloc, &tree, &[AC, REST, REST])?,
-    )
-}
-
-// Whether no core says that the number is an action's, and the core then takes an offer of each kind.
-fn takes_three(alloc: Global, core: &mut Core) -> Result<bool, NoMemory> {
-    let unknown = replacing(alloc, &[AC, ActionId(7), ActionId(4)])?;
-    Ok(
-        replies(alloc, core, &unknown, Err(Refusal::NoAction { number: 7 }))
-            && accepts_three(alloc, core)?
-            && !core.due()
-            && !core.closed(),
+            && tightenings(&history) == 1
+            && replacements(&history) == 0
+            && is_listed(alloc, &tree, &[AB, BC, REST, REST])?,
     )
 }
 
 #[test]
-fn each_kind_is_accepted_once(rt: HostRuntime) -> Result<(), Fail> {
+fn a_core_takes_a_tightening_and_comes_apart(rt: HostRuntime) -> Result<(), Fail> {
     let told = begun(rt.alloc(), &[AB, BC, REST, REST])?;
     let mut core = told.ok_or("no task")?.ok().ok_or("no core")?;
-    assert!(rt; takes_three(rt.alloc(), &mut core)?);
+    let offer = loosening(rt.alloc())?.try_copy(rt.alloc())?;
+    assert!(rt; replies(rt.alloc(), &mut core, &offer, Ok(1)));
     if core.history().len() >= 1 {
         let tree = core.at(rt.alloc(), 1)?;
         assert!(rt; is_listed(rt.alloc(), &tree, &[AB, BC, REST, REST])?);
     }
     assert!(rt; comes_apart(rt.alloc(), core)?);
+    Ok(())
+}
+
+// No text says a number that is no action's.
+#[test]
+fn a_number_that_is_no_actions_is_told(rt: HostRuntime) -> Result<(), Fail> {
+    let told = begun(rt.alloc(), &[AB, BC])?;
+    let mut core = told.ok_or("no task")?.ok().ok_or("no core")?;
+    let offer = replacing(rt.alloc(), &[AC, ActionId(7), ActionId(4)])?;
+    let unknown = Refusal::NoAction { number: 7 };
+    assert!(rt; replies(rt.alloc(), &mut core, &offer, Err(unknown)));
     Ok(())
 }
