@@ -1,0 +1,4 @@
+mod CutDownLemmas
+mod MissingLemmas
+mod SetLemmas
+mod ValueLemmas

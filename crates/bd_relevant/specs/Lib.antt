@@ -1,0 +1,3 @@
+pub mod CutDown
+pub mod Uses
+pub mod Values
