@@ -1,3 +1,4 @@
+mod AllLemmas
 mod CutDownLemmas
 mod MissingLemmas
 mod SetLemmas

@@ -1,4 +1,4 @@
-ghost use Rattle.std.specs.Prelude.{◌≡◌, ◌+◌, length, Some, IfSome, IfOk, OnOk, slice_get};
+ghost use Rattle.std.specs.Prelude.{◌≡◌, ◌+◌, length, Some, IfOk, OnOk, slice_get};
 ghost use Rattle.bd_task.specs.TaskView.{IsAction};
 ghost use Rattle.bd_cut.specs.Cut.{AreRelevant, cut_set, cut_action};
 ghost use Rattle.bd_relevant.specs.CutDown.{IsCutDown};
@@ -130,13 +130,10 @@ fn cut_with(
 }
 
 /// The task cut down to its relevant facts.
-pub fn cut_down(alloc: Global, task: &Task) -> Result<Option<CutTask>, NoMemory>
-    ensures { IfOk result (λ found. IfSome found (IsCutDown task.now)) }
+pub fn cut_down(alloc: Global, task: &Task) -> Result<CutTask, NoMemory>
+    ensures { IfOk result (IsCutDown task.now) }
 {
-    let Some(relevant) = relevant_facts(alloc, task)? else {
-        return Ok(None);
-    };
+    let relevant = relevant_facts(alloc, task)?;
     let (numbers, actions) = kept_actions(alloc, task, &relevant)?;
-    let cut = cut_with(alloc, task, relevant, numbers, actions)?;
-    Ok(Some(cut))
+    cut_with(alloc, task, relevant, numbers, actions)
 }

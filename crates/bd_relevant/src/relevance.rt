@@ -2,7 +2,7 @@ ghost use Rattle.std.specs.Prelude.{◌≡◌, [], ◌<◌, length, Some, IfSome
 ghost use Rattle.bd_cut.specs.Cut.{is_kept, AreRelevant};
 ghost use Rattle.bd_relevant.specs.Uses.{AreUses, TakesUses};
 
-use bd_base::{ActionId, FactSet, NoMemory};
+use bd_base::{ActionId, FactId, FactSet, NoMemory};
 use bd_task::{Action, Task};
 use std::alloc::Global;
 
@@ -81,9 +81,9 @@ fn missing(alloc: Global, task: &Task, relevant: &FactSet) -> Result<FactSet, No
     missing_of(alloc, task, relevant, used, &deleted)
 }
 
-/// Facts that are all that matter of a task: those that are missing are put in until there are none. It gives none
-/// where that takes more rounds than the task has facts, which it doesn't.
-pub(crate) fn relevant_facts(alloc: Global, task: &Task) -> Result<Option<FactSet>, NoMemory>
+// The facts that are all that matter of a task: those that are missing are put in until there are none; nothing where that
+// takes more rounds than the task has facts.
+fn found_by_rounds(alloc: Global, task: &Task) -> Result<Option<FactSet>, NoMemory>
     ensures { IfOk result (λ found. IfSome found (AreRelevant task.now)) }
 {
     let mut relevant = FactSet::new();
@@ -95,4 +95,28 @@ pub(crate) fn relevant_facts(alloc: Global, task: &Task) -> Result<Option<FactSe
         relevant.join(alloc, &facts)?;
     }
     Ok(None)
+}
+
+// All facts of a task, which are all that matter.
+#[tactic(auto, using(crate::proofs::AllLemmas::more_facts))]
+fn all_facts(alloc: Global, task: &Task) -> Result<FactSet, NoMemory>
+    ensures { IfOk result (AreRelevant task.now) }
+{
+    let _start = task.init();
+    let mut facts = FactSet::new();
+    for f in 0..task.facts() {
+        facts.insert(alloc, FactId(f))?;
+    }
+    Ok(facts)
+}
+
+/// Facts that are all that matter of a task. Each round of the search for them puts in one more at least; all facts stand in
+/// for those that rounds don't find.
+pub(crate) fn relevant_facts(alloc: Global, task: &Task) -> Result<FactSet, NoMemory>
+    ensures { IfOk result (AreRelevant task.now) }
+{
+    match found_by_rounds(alloc, task)? {
+        Some(relevant) => Ok(relevant),
+        None => all_facts(alloc, task),
+    }
 }

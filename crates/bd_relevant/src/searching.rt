@@ -89,8 +89,6 @@ fn search_cut(
 pub fn search_relevant(alloc: Global, task: &Task, bound: u64, nodes: u32) -> Result<Kind, NoMemory>
     ensures { IfOk result (λ kind. IsTrueVerdict task.now bound nodes kind) }
 {
-    match cut_down(alloc, task)? {
-        None => search_whole(alloc, task, bound, nodes),
-        Some(cut) => search_cut(alloc, task, &cut, bound, nodes),
-    }
+    let cut = cut_down(alloc, task)?;
+    search_cut(alloc, task, &cut, bound, nodes)
 }
