@@ -1,0 +1,4 @@
+pub mod LeadLemmas
+pub mod LineLemmas
+pub mod PlaceLemmas
+pub mod RangeLemmas
