@@ -1,0 +1,8 @@
+use Rattle.plan_loosen.proofs.FlatLemmas.{deordered_may, opened_told}
+use Rattle.plan_loosen.proofs.opening.opened.Goals as goal
+
+pub begun-requires-clause-may : goal.begun-requires-clause-may
+begun-requires-clause-may c = deordered_may c.args.task c.args.list.now c.requires.in_range c.requires.few c.in_ok-start.start c.in_ok-start.ensures
+
+pub returns : goal.returns
+returns c = opened_told c.args.task c.args.list.now c.requires.in_range c.requires.few c.in_ok-start.start c.in_ok-start.ensures c.begun.result c.begun.ensures
