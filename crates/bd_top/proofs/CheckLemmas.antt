@@ -1,19 +1,16 @@
 -- Of three texts that are told, each status that they decide comes exactly where its cause stands, and a valid plan is told so.
-use Rattle.std.proofs.Common.{◌≡◌, ◌⊎◌, inl, inr, ℕ, ◌≤◌, Bool, List, Option, Some, None, length, refl, sym, ap, ◌∙◌, subst}
-use Rattle.bd_base.specs.Causes.{Rose}
+use Rattle.std.proofs.Common.{◌≡◌, ◌⊎◌, inl, inr, ℕ, Bool, List, Option, Some, None, refl, sym, ap, ◌∙◌, subst}
 use Rattle.bd_base.specs.Shelf.{Told, text}
 use Rattle.bd_base.specs.declared.text_err.Cause.{Cause}
 use Rattle.bd_base.specs.declared.text_err.Limit.{Limit}
 use Rattle.bd_task.specs.TaskView.{TaskView}
 use Rattle.bd_task.specs.Valid.{cost_of}
 use Rattle.seq_check.specs.declared.judging.Broken.{Broken}
-use Rattle.seq_check.specs.declared.judging.Broken.TheVariants as broken
 use Rattle.task_inputs.specs.declared.answers.Part.{Part}
-use Rattle.task_inputs.specs.declared.answers.Part.TheVariants as part
 use Rattle.task_inputs.specs.declared.answers.Inputs.{Inputs}
 use Rattle.task_inputs.specs.declared.answers.Inputs.TheVariants as inputs
 use Rattle.task_inputs.specs.Reads.{Counts, IsToldAs}
-use Rattle.task_inputs.specs.Inputs.{outcome, LeadsTo, HasNoText, IsValidPlan}
+use Rattle.task_inputs.specs.Inputs.{outcome, LeadsTo, IsValidPlan}
 use Rattle.task_inputs.proofs.ValidLemmas.{valid_plans_law}
 use Rattle.task_inputs.proofs.Laws.{leads_outcome, faultless_outcome}
 use Rattle.bd_top.specs.declared.record.RunRecord.{RunRecord}
@@ -21,9 +18,10 @@ use Rattle.bd_top.specs.declared.status.File.{File}
 use Rattle.bd_top.specs.declared.status.Status.{Status}
 use Rattle.bd_top.specs.declared.status.Status.TheVariants as status
 use Rattle.bd_top.specs.Prepared.{Names, NamesTexts, IsNamedRefusal, IsTextsRefusal, IsRefusal, TextsLead, Tells, file_by, name_by}
+use Rattle.bd_top.specs.Plans.{IsCheckedPlan}
 use Rattle.bd_top.specs.Taken.{Taken, HasFailed}
-use Rattle.bd_top.specs.Words.{script_named, texts_named, TextNames}
-use Rattle.bd_top.specs.Run.{Ends, HasWriteFault, IsCheckedPlan, IsExactCheck, AreNamedTexts, IsGoodPlan, HasValidPlan, BreaksFirst, IsFirstFault, IsFaultless, IsDoneOrNoMemory}
+use Rattle.bd_top.specs.Words.{texts_named, TextNames}
+use Rattle.bd_top.specs.Run.{Ends, HasWriteFault, IsExactCheck, AreNamedTexts, IsGoodPlan, BreaksFirst, IsFirstFault, IsFaultless, IsDoneOrNoMemory}
 use Rattle.bd_top.proofs.CommandLemmas.{one_command}
 
 names_same : (o : Option TextNames) (m n : TextNames) → o ≡ Some m → o ≡ Some n → m ≡ n
@@ -189,7 +187,8 @@ module _ (words : List (List ℕ)) (tells : List ℕ → Told) (d p q : List ℕ
 
   no_fault : (out notes : Taken) (run : Option RunRecord) → IsFaultless out.faults out.faults_after → IsFaultless notes.faults notes.faults_after → HasWriteFault words tells out notes run → ⊥
   no_fault out notes None quiet still h = quiet h.printed.failed
-  no_fault out notes (Some run) quiet still h = failed out notes quiet still h.failed
+  no_fault out notes (Some run) quiet still (inl h) = failed out notes quiet still h.failed
+  no_fault out notes (Some run) quiet still (inr h) = quiet h.printed.failed
 
   pub checked : (out notes : Taken) (why : Status) (run : Option RunRecord) → IsFaultless out.faults out.faults_after → IsFaultless notes.faults notes.faults_after →
       Ends words tells c out notes why run → IsDoneOrNoMemory why

@@ -1,5 +1,5 @@
 -- The words name a script, or three texts, and not both.
-use Rattle.std.proofs.Common.{◌≡◌, ℕ, Bool, true, false, cond, List, [], ◌∷◌, Option, Some, None}
+use Rattle.std.proofs.Common.{◌≡◌, ℕ, List, [], ◌∷◌, Some, None}
 use Rattle.bd_top.specs.Words.{script_named, texts_named, TextNames}
 
 none_some : {A : Type 0} (a : A) → None ≡ Some a → ⊥

@@ -18,7 +18,6 @@ use Rattle.bd_top.specs.declared.status.Status.{Status}
 use Rattle.bd_top.specs.declared.status.Status.TheVariants as status
 use Rattle.task_inputs.specs.Reads.{Counts, WasRead, IsToldAs, IsUnread, IsLong}
 use Rattle.bd_top.specs.Prepared.{Names, NamesTexts, IsTextRefusal, IsTextsRefusal, IsNamedRefusal, IsRefusal, HasUnsoundStart, IsReadyText, start_of}
-use Rattle.bd_top.specs.Words.{script_named, texts_named}
 use Rattle.bd_top.proofs.CommandLemmas.{one_command}
 use Rattle.bd_top.specs.Run.{Ends, HasWriteFault, IsGood, IsFaultless, IsDoneOrNoMemory}
 use Rattle.bd_top.specs.Taken.{Taken, HasFailed}
@@ -119,7 +118,8 @@ module _ (words : List (List ℕ)) (tells : List ℕ → Told) (script : Script)
 
     no_fault : (out notes : Taken) (run : Option RunRecord) → IsFaultless out.faults out.faults_after → IsFaultless notes.faults notes.faults_after → HasWriteFault words tells out notes run → ⊥
     no_fault out notes None quiet still h = quiet h.printed.failed
-    no_fault out notes (Some run) quiet still h = no_failure out notes quiet still h.failed
+    no_fault out notes (Some run) quiet still (inl h) = no_failure out notes quiet still h.failed
+    no_fault out notes (Some run) quiet still (inr h) = quiet h.printed.failed
 
     pub complete : (out notes : Taken) (why : Status) (run : Option RunRecord) → IsFaultless out.faults out.faults_after → IsFaultless notes.faults notes.faults_after →
         Ends words tells c out notes why run → IsDoneOrNoMemory why

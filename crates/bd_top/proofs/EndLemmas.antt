@@ -143,10 +143,10 @@ module _ (words : List (List ℕ)) (tells : List ℕ → Told) (c : Counts) (scr
   recorded run is = record { script = script; ready = ready; is_run = is }
 
   pub ends : (st : Status) (e : Option RunRecord) → Replays (opening_of script) script.offers out notes st e → Ends words tells c out notes st e
-  ends status.Done (Some run) h = record { recorded = recorded run h.0; ended = h.1; printed = h.2; noted = h.3 }
+  ends status.Done (Some run) h = inl (record { recorded = recorded run h.0; ended = h.1; printed = h.2; noted = h.3 })
   ends status.Done None h = absurd h
-  ends status.WriteFault (Some run) h = record { failed = h.1; partly = record { recorded = recorded run h.0; printed = h.2; noted = h.3 } }
+  ends status.WriteFault (Some run) h = inl (record { failed = h.1; partly = record { recorded = recorded run h.0; printed = h.2; noted = h.3 } })
   ends status.WriteFault None h = absurd h
-  ends status.NoMemory (Some run) h = record { recorded = recorded run h.0; printed = h.1; noted = h.2 }
+  ends status.NoMemory (Some run) h = inl (record { recorded = recorded run h.0; printed = h.1; noted = h.2 })
   ends status.NoMemory None h = h
   ends other e h = absurd h

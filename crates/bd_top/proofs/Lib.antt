@@ -10,3 +10,4 @@ pub mod UsableLemmas
 pub mod TextLemmas
 pub mod ReplayLemmas
 pub mod EndLemmas
+pub mod DeorderLemmas

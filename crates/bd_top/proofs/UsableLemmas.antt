@@ -1,5 +1,5 @@
 -- Each text of a recorded run may be asked for.
-use Rattle.std.proofs.Common.{◌≡◌, ℕ, List, [], ◌∷◌, length, Option, Some, None, Result, Ok, Err, IfSome, sym, subst}
+use Rattle.std.proofs.Common.{◌≡◌, ℕ, List, [], ◌∷◌, length, Option, Some, None, Result, Ok, Err, IfSome, inl, inr, sym, subst}
 use Rattle.bd_base.specs.Shelf.{Told}
 use Rattle.bd_task.specs.TaskView.{TaskView}
 use Rattle.plan_core.specs.Core.{CoreView, accepted}
@@ -9,6 +9,7 @@ use Rattle.bd_top.specs.declared.record.RunRecord.{RunRecord}
 use Rattle.bd_top.specs.declared.status.Status.{Status}
 use Rattle.bd_top.specs.declared.status.Status.TheVariants as status
 use Rattle.task_inputs.specs.Reads.{Counts}
+use Rattle.bd_top.specs.Deorder.{IsDeorderRun}
 use Rattle.bd_top.specs.Replay.{Makes}
 use Rattle.bd_top.specs.Run.{Ends, IsRunOf, IsRecorded, IsUsable, AreTold}
 use Rattle.bd_top.specs.Taken.{Taken}
@@ -30,13 +31,24 @@ of_run core offers run is = subst IsUsable (sym is.recorded) (record {
 of_recorded : (words : List (List ℕ)) (tells : List ℕ → Told) (run : RunRecord) → IsRecorded words tells run → IsUsable run
 of_recorded words tells run h = of_run _ h.script.offers run h.is_run
 
+of_deordered : (words : List (List ℕ)) (tells : List ℕ → Told) (run : RunRecord) → IsDeorderRun words tells run → IsUsable run
+of_deordered words tells run h = subst IsUsable (sym h.loosens.recorded) (record {
+  start = h.loosens.loosened.lawful.printable_at 0;
+  tree = h.loosens.loosened.lawful.printable;
+  trees = h.loosens.loosened.lawful.printable_at;
+  told = tt;
+})
+
 without : (run : Option RunRecord) → run ≡ None → IfSome run IsUsable
 without run none = subst (λ z. IfSome z IsUsable) (sym none) tt
 
 pub usable : (words : List (List ℕ)) (tells : List ℕ → Told) (c : Counts) (out notes : Taken) (why : Status) (run : Option RunRecord) → Ends words tells c out notes why run → IfSome run IsUsable
-usable words tells c out notes status.Done (Some run) h = of_recorded words tells run h.recorded
-usable words tells c out notes status.WriteFault (Some run) h = of_recorded words tells run h.partly.recorded
-usable words tells c out notes status.NoMemory (Some run) h = of_recorded words tells run h.recorded
+usable words tells c out notes status.Done (Some run) (inl h) = of_recorded words tells run h.recorded
+usable words tells c out notes status.Done (Some run) (inr h) = of_deordered words tells run h.is_run
+usable words tells c out notes status.WriteFault (Some run) (inl h) = of_recorded words tells run h.partly.recorded
+usable words tells c out notes status.WriteFault (Some run) (inr h) = of_deordered words tells run h.is_run
+usable words tells c out notes status.NoMemory (Some run) (inl h) = of_recorded words tells run h.recorded
+usable words tells c out notes status.NoMemory (Some run) (inr h) = of_deordered words tells run h.is_run
 usable words tells c out notes status.Done None h = tt
 usable words tells c out notes status.WriteFault None h = tt
 usable words tells c out notes status.NoMemory None h = tt

@@ -1,3 +1,5 @@
+pub mod Deorder
+pub mod Plans
 pub mod Prepared
 pub mod Replay
 pub mod Run

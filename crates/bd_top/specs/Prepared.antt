@@ -33,7 +33,7 @@ use Rattle.bd_top.specs.declared.status.File.TheVariants as file
 use Rattle.bd_top.specs.declared.status.Status.{Status}
 use Rattle.bd_top.specs.declared.status.Status.TheVariants as status
 use Rattle.bd_top.specs.Texts.{invalid_line, refused_line, over_line, unread_line}
-use Rattle.bd_top.specs.Words.{script_named, texts_named, TextNames}
+use Rattle.bd_top.specs.Words.{deorders, script_named, texts_named, TextNames}
 
 -- the tree that a script starts from: its own, where it has one, else the chain of its plan
 abbrev pub start_of : Script → Node
@@ -188,6 +188,11 @@ pub record LeadToPlan (names : TextNames) (tells : List ℕ → Told) (c : Count
   pub plan : List ℕ
   pub leads : TextsLead names tells c (inputs.Ready task plan cost)
 
+-- the words name texts that lead to this plan of this task
+pub record LeadToTask (names : TextNames) (tells : List ℕ → Told) (c : Counts) (task : TaskView) (plan : List ℕ) : Type 0 where
+  pub cost : ℕ
+  pub leads : TextsLead names tells c (inputs.Ready task plan cost)
+
 -- why a run is refused, and the line that says so
 abbrev pub IsRefusal : List (List ℕ) → (List ℕ → Told) → Counts → Status → List ℕ → Type 0
 IsRefusal words tells c status.Usage line = (script_named words ≡ None) × (texts_named words ≡ None) × (line ≡ USAGE.now)
@@ -207,6 +212,7 @@ PreparesScript script (prepared.Refused (status.PlanInvalid (broken.Goal f)) lin
 PreparesScript script (prepared.Refused (status.TextRefused file.Script place cause) line) = FailsAtStart script place cause × (line ≡ refused_line file.Script place cause)
 PreparesScript script (prepared.Refused other line) = ⊥
 PreparesScript script (prepared.Valid cost) = ⊥
+PreparesScript script (prepared.Plan task plan) = ⊥
 PreparesScript script prepared.NoMemory = Unit {0}
 
 -- what is prepared is what there is; want of memory is free
@@ -214,27 +220,31 @@ abbrev pub PreparesText : List ℕ → Prepared → Type 0
 PreparesText t (prepared.Ready script) = IsReadyText t script
 PreparesText t (prepared.Refused why line) = IsTextRefusal t why line
 PreparesText t (prepared.Valid cost) = ⊥
+PreparesText t (prepared.Plan task plan) = ⊥
 PreparesText t prepared.NoMemory = Unit {0}
 
 abbrev pub PreparesNamed : List ℕ → Told → Counts → Prepared → Type 0
 PreparesNamed name told c (prepared.Ready script) = WasRead told (λ t. IsReadyText t script)
 PreparesNamed name told c (prepared.Refused why line) = IsNamedRefusal name told c why line
 PreparesNamed name told c (prepared.Valid cost) = ⊥
+PreparesNamed name told c (prepared.Plan task plan) = ⊥
 PreparesNamed name told c prepared.NoMemory = Unit {0}
 
--- what is prepared of three texts
-abbrev pub PreparesTexts : TextNames → (List ℕ → Told) → Counts → Prepared → Type 0
-PreparesTexts names tells c (prepared.Ready script) = ⊥
-PreparesTexts names tells c (prepared.Valid cost) = LeadToPlan names tells c cost
-PreparesTexts names tells c (prepared.Refused why line) = IsTextsRefusal names tells c why line
-PreparesTexts names tells c prepared.NoMemory = Unit {0}
+-- what is prepared of three texts, whose plan is to be deordered or only checked
+abbrev pub PreparesTexts : Bool → TextNames → (List ℕ → Told) → Counts → Prepared → Type 0
+PreparesTexts deorders names tells c (prepared.Ready script) = ⊥
+PreparesTexts deorders names tells c (prepared.Valid cost) = (deorders ≡ false) × LeadToPlan names tells c cost
+PreparesTexts deorders names tells c (prepared.Plan task plan) = (deorders ≡ true) × LeadToTask names tells c task plan
+PreparesTexts deorders names tells c (prepared.Refused why line) = IsTextsRefusal names tells c why line
+PreparesTexts deorders names tells c prepared.NoMemory = Unit {0}
 
 -- what is prepared of what texts lead to
-abbrev pub IsPreparedOf : TextNames → Inputs → Prepared → Type 0
-IsPreparedOf names (inputs.Ready task plan cost) (prepared.Valid same) = same ≡ cost
-IsPreparedOf names result (prepared.Refused why line) = Tells names result why line
-IsPreparedOf names result prepared.NoMemory = Unit {0}
-IsPreparedOf names result other = ⊥
+abbrev pub IsPreparedOf : Bool → TextNames → Inputs → Prepared → Type 0
+IsPreparedOf deorders names (inputs.Ready task plan cost) (prepared.Valid same) = (deorders ≡ false) × (same ≡ cost)
+IsPreparedOf deorders names (inputs.Ready task plan cost) (prepared.Plan t list) = (deorders ≡ true) × (t ≡ task) × (list ≡ plan)
+IsPreparedOf deorders names result (prepared.Refused why line) = Tells names result why line
+IsPreparedOf deorders names result prepared.NoMemory = Unit {0}
+IsPreparedOf deorders names result other = ⊥
 
 -- the refusal of a text that couldn't be read
 abbrev pub IsReadFault : List ℕ → Bool → Prepared → Type 0
@@ -244,6 +254,7 @@ IsReadFault name missing other = ⊥
 
 abbrev pub Prepares : List (List ℕ) → (List ℕ → Told) → Counts → Prepared → Type 0
 Prepares words tells c (prepared.Ready script) = IsReady words tells script
-Prepares words tells c (prepared.Valid cost) = NamesTexts words (λ names. LeadToPlan names tells c cost)
+Prepares words tells c (prepared.Valid cost) = (deorders words ≡ false) × NamesTexts words (λ names. LeadToPlan names tells c cost)
+Prepares words tells c (prepared.Plan task plan) = (deorders words ≡ true) × NamesTexts words (λ names. LeadToTask names tells c task plan)
 Prepares words tells c (prepared.Refused why line) = IsRefusal words tells c why line
 Prepares words tells c prepared.NoMemory = Unit {0}

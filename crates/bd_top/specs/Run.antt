@@ -1,10 +1,10 @@
 -- How a run ends, and what its sinks have received then.
-use Rattle.std.specs.Prelude.{◌≡◌, ◌⊎◌, ◌↔◌, ℕ, ◌≤◌, ◌==◌, if◌then◌else◌, List, [], ◌∷◌, length, take, Option, Some, None, Result, Ok, Err}
+use Rattle.std.specs.Prelude.{◌≡◌, ◌⊎◌, ◌↔◌, ℕ, ◌≤◌, ◌==◌, false, if◌then◌else◌, List, [], ◌∷◌, length, take, Option, Some, None, Result, Ok, Err}
 use Rattle.bd_base.specs.Causes.{Rose}
 use Rattle.bd_base.specs.Shelf.{Told, text}
 use Rattle.bd_base.specs.declared.text_err.Cause.{Cause}
 use Rattle.bd_task.specs.TaskView.{TaskView}
-use Rattle.bd_task.specs.Valid.{IsValid, cost_of}
+use Rattle.bd_task.specs.Valid.{IsValid}
 use Rattle.bd_tree.specs.declared.node.Node.{Node}
 use Rattle.bd_links.specs.Sound.{IsSound}
 use Rattle.plan_core.specs.Core.{CoreView, opened, opening, replay}
@@ -23,15 +23,17 @@ use Rattle.bd_top.specs.declared.status.Status.{Status}
 use Rattle.bd_top.specs.declared.status.Status.TheVariants as status
 use Rattle.bd_top.specs.declared.replay.Stop.{Stop}
 use Rattle.bd_top.specs.declared.replay.Stop.TheVariants as stop
-use Rattle.task_inputs.specs.Reads.{Counts, IsToldAs}
+use Rattle.task_inputs.specs.Reads.{Counts}
 use Rattle.task_inputs.specs.declared.answers.Part.{Part}
 use Rattle.task_inputs.specs.declared.answers.Inputs.TheVariants as inputs
 use Rattle.task_inputs.specs.Inputs.{outcome, IsValidPlan}
+use Rattle.bd_top.specs.Deorder.{IsTreeTold, IsTreeCut, IsTreeUntold}
+use Rattle.bd_top.specs.Plans.{IsCheckedPlan}
 use Rattle.bd_top.specs.Prepared.{IsReady, IsReadyText, IsRefusal, IsTextRefusal, start_of, file_by}
 use Rattle.bd_top.specs.Replay.{Makes, IsTold}
 use Rattle.bd_top.specs.Taken.{Taken, IsSilent, Receives, ReceivesPart, HasFailed, IsCut}
 use Rattle.bd_top.specs.Texts.{summary_of, printed_of, noted_of, valid_line}
-use Rattle.bd_top.specs.Words.{script_named, texts_named, TextNames}
+use Rattle.bd_top.specs.Words.{deorders, script_named, texts_named, TextNames}
 
 -- a run ends with its script where every offer was made
 abbrev pub end_of : List Offer → List (Result ℕ Refusal) → Option End
@@ -85,49 +87,36 @@ pub record IsWriteFault (words : List (List ℕ)) (tells : List ℕ → Told) (o
   pub failed : HasFailed out ⊎ HasFailed notes
   pub partly : IsPartly words tells out notes run
 
--- The words name a domain, a problem and a plan, whose texts, as they were read, give a task and a valid plan for it of this cost.
-pub record IsCheckedPlan (words : List (List ℕ)) (tells : List ℕ → Told) (cost : ℕ) : Type 0 where
-  pub names : TextNames
-  pub named : texts_named words ≡ Some names
-  pub domain : List ℕ
-  pub problem : List ℕ
-  pub plan : List ℕ
-  pub domain_told : IsToldAs (tells names.domain) domain
-  pub problem_told : IsToldAs (tells names.problem) problem
-  pub plan_told : IsToldAs (tells names.plan) plan
-  pub task : TaskView
-  pub list : List ℕ
-  pub valid : IsValidPlan domain problem plan task list
-  pub costs : cost ≡ cost_of task list
-
--- the plan was checked, and `out` has received exactly its cost
+-- the plan was only checked, and `out` has received exactly its cost
 pub record IsChecked (words : List (List ℕ)) (tells : List ℕ → Told) (out notes : Taken) : Type 0 where
+  pub checks : deorders words ≡ false
   pub cost : ℕ
   pub checked : IsCheckedPlan words tells cost
   pub printed : Receives out (valid_line cost)
   pub noted : IsSilent notes
 
--- the plan was checked, but `out` failed within its cost
+-- the plan was only checked, but `out` failed within its cost
 pub record IsCheckCut (words : List (List ℕ)) (tells : List ℕ → Told) (out notes : Taken) : Type 0 where
+  pub checks : deorders words ≡ false
   pub cost : ℕ
   pub checked : IsCheckedPlan words tells cost
   pub printed : IsCut out (valid_line cost)
   pub noted : IsSilent notes
 
--- all was done: a script was run, or a plan was checked
+-- all was done: a script was run, or a plan was checked or deordered
 abbrev pub IsAllDone : List (List ℕ) → (List ℕ → Told) → Taken → Taken → Option RunRecord → Type 0
 IsAllDone words tells out notes None = IsChecked words tells out notes
-IsAllDone words tells out notes (Some run) = IsDone words tells out notes run
+IsAllDone words tells out notes (Some run) = IsDone words tells out notes run ⊎ IsTreeTold words tells out notes run
 
--- a write failed: within a run, or within the cost of a plan
+-- a write failed: within a run, within the cost of a plan, or within the text of a tree
 abbrev pub HasWriteFault : List (List ℕ) → (List ℕ → Told) → Taken → Taken → Option RunRecord → Type 0
 HasWriteFault words tells out notes None = IsCheckCut words tells out notes
-HasWriteFault words tells out notes (Some run) = IsWriteFault words tells out notes run
+HasWriteFault words tells out notes (Some run) = IsWriteFault words tells out notes run ⊎ IsTreeCut words tells out notes run
 
 -- memory was wanting: the run was kept, or nothing was put
 abbrev pub IsOutOfMemory : List (List ℕ) → (List ℕ → Told) → Taken → Taken → Option RunRecord → Type 0
 IsOutOfMemory words tells out notes None = IsSilent out × IsSilent notes
-IsOutOfMemory words tells out notes (Some run) = IsPartly words tells out notes run
+IsOutOfMemory words tells out notes (Some run) = IsPartly words tells out notes run ⊎ IsTreeUntold words tells out notes run
 
 -- the words and the texts lead to a refusal: nothing was put to `out`, its line to `notes`, or a first part of it where that failed, and there is no run
 pub record IsRefused (words : List (List ℕ)) (tells : List ℕ → Told) (c : Counts) (out notes : Taken) (why : Status) (run : Option RunRecord) : Type 0 where

@@ -18,7 +18,7 @@ use Rattle.plan_core.specs.declared.offer.Offer.TheVariants.{Replace, Tighten, R
 use Rattle.plan_core.specs.declared.refusal.Refusal.{Refusal}
 use Rattle.plan_core.specs.declared.refusal.Refusal.TheVariants as refusal
 use Rattle.bd_top.specs.declared.record.End.{End}
-use Rattle.bd_top.specs.declared.record.End.TheVariants.{Script}
+use Rattle.bd_top.specs.declared.record.End.TheVariants.{Script, Tight}
 use Rattle.bd_top.specs.declared.record.RunRecord.{RunRecord}
 use Rattle.bd_top.specs.declared.status.File.{File}
 use Rattle.bd_top.specs.declared.status.File.TheVariants as file
@@ -36,6 +36,7 @@ valid_line cost = counted (codes "valid cost ") cost
 
 abbrev pub end_name : End → List ℕ
 end_name Script = codes "script"
+end_name Tight = codes "tight"
 
 abbrev pub end_line : Option End → List ℕ
 end_line None = []
@@ -119,11 +120,11 @@ reply_texts task number [] = []
 reply_texts task number (Ok place ∷ rest) = reply_texts task (number + 1) rest
 reply_texts task number (Err why ∷ rest) = reply_line task number why ++ reply_texts task (number + 1) rest
 
--- what a run puts to standard output: the better texts of its history, and then the summary, where it has an end
+-- what the run of a script puts to standard output: the better texts of its history, and then the summary, where it has an end
 abbrev pub printed_of : RunRecord → List ℕ
 printed_of run = better_texts run.task 0 (opened run.start) run.history ++ closing_by run.end (summary_of run)
 
--- what a run puts to standard error
+-- what the run of a script puts to standard error
 abbrev pub noted_of : RunRecord → List ℕ
 noted_of run = reply_texts run.task 1 run.replies
 

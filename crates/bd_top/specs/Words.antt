@@ -1,5 +1,5 @@
 -- What the program's words ask for.
-use Rattle.std.specs.Prelude.{ℕ, List, [], ◌∷◌, Option, Some, None, codes, cond}
+use Rattle.std.specs.Prelude.{ℕ, Bool, false, ◌||◌, List, [], ◌∷◌, Option, Some, None, codes, cond}
 use Rattle.std.specs.Str.{bytes_eq}
 
 -- the script's name, where the words are `replay` and one more
@@ -15,11 +15,20 @@ pub record TextNames : Type 0 where
   pub problem : List ℕ
   pub plan : List ℕ
 
--- the names of the texts, where the words are `check` and three more
+-- whether the command takes a domain, a problem and a plan
+abbrev pub takes_texts : List ℕ → Bool
+takes_texts command = bytes_eq command (codes "check") || bytes_eq command (codes "deorder")
+
+-- whether the words begin with `deorder`
+abbrev pub deorders : List (List ℕ) → Bool
+deorders [] = false
+deorders (command ∷ rest) = bytes_eq command (codes "deorder")
+
+-- the names of the texts, where the words are `check` or `deorder` and three more
 abbrev pub texts_named : List (List ℕ) → Option TextNames
 texts_named [] = None
 texts_named (command ∷ []) = None
 texts_named (command ∷ domain ∷ []) = None
 texts_named (command ∷ domain ∷ problem ∷ []) = None
-texts_named (command ∷ domain ∷ problem ∷ plan ∷ []) = cond (bytes_eq command (codes "check")) (Some (record { domain = domain; problem = problem; plan = plan })) None
+texts_named (command ∷ domain ∷ problem ∷ plan ∷ []) = cond (takes_texts command) (Some (record { domain = domain; problem = problem; plan = plan })) None
 texts_named (command ∷ domain ∷ problem ∷ plan ∷ more ∷ rest) = None

@@ -8,6 +8,7 @@ ghost use Rattle.script_text.specs.declared.script.Script.{Script};
 ghost use Rattle.bd_top.specs.Prepared.{IsRunnable};
 ghost use Rattle.bd_top.specs.Run.{Checks, Ends, Finishes, IsDecided, IsDoneOrNoMemory, IsExact, IsFaultless, IsGood, IsGoodPlan, IsUsable, Replays, opening_of, record_of, status_by, status_of};
 
+use crate::deorder::put_loosened;
 use crate::prepare::{Prepared, prepare_words};
 use crate::record::{End, Reply, RunRecord};
 use crate::replay::{Stop, make_offers, put_text};
@@ -180,8 +181,8 @@ fn run_script<S: Sink, E: Sink>(alloc: Global, script: Script, out: &mut S, note
     }
 }
 
-// What a put that ends a command ends it with.
-fn status_of(put: Result<(), Stop>) -> Status
+/// What a put that ends a command ends it with.
+pub(crate) fn status_of(put: Result<(), Stop>) -> Status
     ensures { result ≡ status_by put }
 {
     match put {
@@ -218,6 +219,7 @@ fn run_words<H: Shelf, S: Sink, E: Sink>(
     match prepare_words(alloc, words, shelf) {
         Prepared::Ready(script) => run_script(alloc, script, out, notes),
         Prepared::Valid { cost } => put_cost(alloc, cost, out),
+        Prepared::Plan { task, plan } => put_loosened(alloc, task, plan, out),
         Prepared::Refused { status, line } => {
             let _ = notes.put(line.as_slice());
             Ended { status, run: None }
@@ -249,7 +251,7 @@ pub fn run_alone<H: Shelf, S: Sink, E: Sink>(
     ensures exact { IsDecided result.status → IsExact (map string_bytes words.now) (H.tells shelf.old) result.status }
     // Whoever has the record of a run may ask for each of its texts.
     ensures usable { IfSome result.run (λ run. IsUsable run) }
-    // A valid plan is told so, where nothing outside fails.
+    // A valid plan is told so, or its tree, where nothing outside fails.
     ensures checked { (domain problem plan : List ℕ) → IsGoodPlan (map string_bytes words.now) (H.tells shelf.old) domain problem plan → IsFaultless (H.faults shelf.old) (H.faults shelf.new) → IsFaultless (S.faults out.old) (S.faults out.new) → IsFaultless (E.faults notes.old) (E.faults notes.new) → IsDoneOrNoMemory result.status }
     // A good script is run, where nothing outside fails.
     ensures complete { (script : Script) → IsGood (map string_bytes words.now) (H.tells shelf.old) script → IsFaultless (H.faults shelf.old) (H.faults shelf.new) → IsFaultless (S.faults out.old) (S.faults out.new) → IsFaultless (E.faults notes.old) (E.faults notes.new) → IsDoneOrNoMemory result.status }

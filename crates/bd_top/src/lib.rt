@@ -1,12 +1,13 @@
 //! The whole program as one call: from words, named texts and two sinks to a status and the bytes written.
 //!
 //! It may know every crate below it. It promises what `run_alone` carries: which words and texts lead to
-//! which status, which bytes are put, that the plan of every run is valid in each of its linearisations, and that
-//! the cost of a plan is put exactly where the plan is valid.
+//! which status, which bytes are put, that the plan of every run is valid in each of its linearisations, that
+//! the cost of a plan is put exactly where the plan is valid, and that a plan is deordered to a tree that is tight.
 #![tactic(auto)]
 
 mod alone;
 mod better;
+mod deorder;
 mod notes;
 mod prepare;
 mod record;

@@ -9,9 +9,10 @@ ghost use Rattle.bd_top.specs.declared.prepare.Prepared.TheVariants.{Refused as 
 use crate::notes::{broken_note, over_note, refused_note, unread_note};
 use crate::status::{File, Status};
 use crate::texts::prepare_texts;
-use crate::usage::{script_name, text_names, usage_note};
-use bd_base::{Cause, Limit, NoMemory, Shelf, ShelfErr, Text, TextErr};
+use crate::usage::{deorders, script_name, text_names, usage_note};
+use bd_base::{ActList, Cause, Limit, NoMemory, Shelf, ShelfErr, Text, TextErr};
 use bd_links::check;
+use bd_task::Task;
 use script_text::{Script, read_script};
 use seq_check::{Broken, validate};
 use std::alloc::Global;
@@ -26,6 +27,8 @@ pub enum Prepared {
     Ready(Script),
     /// A valid plan, with its cost.
     Valid { cost: u64 },
+    /// A valid plan that is to be deordered, with its task.
+    Plan { task: Task, plan: ActList },
     /// A refusal, and the line that names it.
     Refused { status: Status, line: Text },
     /// Memory was wanting.
@@ -182,7 +185,7 @@ pub fn prepare_words<H: Shelf>(alloc: Global, words: &[String], shelf: &mut H) -
     match script_name(words) {
         Some(name) => prepare_named(alloc, name, shelf),
         None => match text_names(words) {
-            Some(names) => prepare_texts(alloc, &names, shelf),
+            Some(names) => prepare_texts(alloc, &names, deorders(words), shelf),
             None => refused(Status::Usage, usage_note(alloc)),
         },
     }

@@ -11,6 +11,8 @@ pub type Reply = Result<u64, Refusal>;
 pub enum End {
     /// Every offer of the script was made.
     Script,
+    /// No gain was left: the tree is tight.
+    Tight,
 }
 
 /// What a run did: from which tree, by which accepted offers, to which tree.
@@ -22,6 +24,6 @@ pub struct RunRecord {
     pub tree: Tree,
     /// One for each offer of a script that was made, in their order, the last of them perhaps without its text.
     pub replies: Items<Reply>,
-    /// `None` where a sink's fault or want of memory stopped the run before its last offer was made.
+    /// `None` where a sink's fault or want of memory stopped the run of a script before its last offer was made.
     pub end: Option<End>,
 }

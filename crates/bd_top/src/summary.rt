@@ -15,6 +15,7 @@ fn push_end(text: &mut Vec<u8>, end: Option<End>) -> Result<(), NoMemory>
     match end {
         None => {}
         Some(End::Script) => text.extend_from_slice(b"; end script\n")?,
+        Some(End::Tight) => text.extend_from_slice(b"; end tight\n")?,
     }
     Ok(())
 }

@@ -31,12 +31,18 @@ fn name_of<'a>(names: &TextNames<'a>, part: Part) -> &'a str
 }
 
 // What is prepared of what texts lead to.
-fn told(alloc: Global, names: &TextNames, inputs: Inputs) -> Prepared
+fn told(alloc: Global, names: &TextNames, deorders: bool, inputs: Inputs) -> Prepared
     requires { IsInTask inputs }
-    ensures { IsPreparedOf (record { domain = names.now.domain.now; problem = names.now.problem.now; plan = names.now.plan.now }) inputs result }
+    ensures { IsPreparedOf deorders (record { domain = names.now.domain.now; problem = names.now.problem.now; plan = names.now.plan.now }) inputs result }
 {
     match inputs {
-        Inputs::Ready { cost, .. } => Prepared::Valid { cost },
+        Inputs::Ready { task, plan, cost } => {
+            if deorders {
+                Prepared::Plan { task, plan }
+            } else {
+                Prepared::Valid { cost }
+            }
+        }
         Inputs::Unread { part, missing } => unread(alloc, name_of(names, part), missing),
         Inputs::Refused { part, place, cause } => {
             let file = file_of(part);
@@ -55,12 +61,17 @@ fn told(alloc: Global, names: &TextNames, inputs: Inputs) -> Prepared
     }
 }
 
-/// Reads and judges three texts. The shelf still tells what it told.
-pub fn prepare_texts<H: Shelf>(alloc: Global, names: &TextNames, shelf: &mut H) -> Prepared
-    ensures prepared { PreparesTexts (record { domain = names.now.domain.now; problem = names.now.problem.now; plan = names.now.plan.now }) (H.tells shelf.old)
+/// Reads and judges three texts, whose plan is to be deordered or only checked. The shelf still tells what it told.
+pub fn prepare_texts<H: Shelf>(
+    alloc: Global,
+    names: &TextNames,
+    deorders: bool,
+    shelf: &mut H,
+) -> Prepared
+    ensures prepared { PreparesTexts deorders (record { domain = names.now.domain.now; problem = names.now.problem.now; plan = names.now.plan.now }) (H.tells shelf.old)
         (record { faults = H.faults shelf.old; faults_after = H.faults shelf.new; longs = H.longs shelf.old; longs_after = H.longs shelf.new }) result }
     ensures told { (n : List ℕ) → H.tells shelf.new n ≡ H.tells shelf.old n }
 {
     let result = inputs(alloc, names.domain, names.problem, names.plan, shelf);
-    told(alloc, names, result)
+    told(alloc, names, deorders, result)
 }

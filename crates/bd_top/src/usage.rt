@@ -1,5 +1,5 @@
 ghost use Rattle.std.specs.Prelude.{◌≡◌, None, Some, MatchOption, IfOk, map, string_bytes};
-ghost use Rattle.bd_top.specs.Words.{script_named, texts_named};
+ghost use Rattle.bd_top.specs.Words.{deorders, script_named, takes_texts, texts_named};
 
 use bd_base::{NoMemory, Text};
 use std::alloc::Global;
@@ -32,13 +32,30 @@ pub struct TextNames<'a> {
     pub plan: &'a str,
 }
 
-/// The texts that the words name: they are `check` and three more, whatever these begin with.
+// Whether the command takes a domain, a problem and a plan.
+fn takes_texts(command: &str) -> bool
+    ensures { result ≡ takes_texts command.now }
+{
+    command == "check" || command == "deorder"
+}
+
+/// Whether the words begin with `deorder`.
+pub fn deorders(words: &[String]) -> bool
+    ensures { result ≡ deorders (map string_bytes words.now) }
+{
+    match words {
+        [command, ..] => command.as_str() == "deorder",
+        [] => false,
+    }
+}
+
+/// The texts that the words name: they are `check` or `deorder` and three more, whatever these begin with.
 pub fn text_names(words: &[String]) -> Option<TextNames<'_>>
     ensures { MatchOption result (texts_named (map string_bytes words.now) ≡ None) (λ n. texts_named (map string_bytes words.now) ≡ Some (record { domain = n.domain.now; problem = n.problem.now; plan = n.plan.now })) }
 {
     match words {
         [command, domain, problem, plan] => {
-            if command.as_str() == "check" {
+            if takes_texts(command.as_str()) {
                 Some(TextNames {
                     domain: domain.as_str(),
                     problem: problem.as_str(),

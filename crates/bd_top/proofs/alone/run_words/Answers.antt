@@ -1,4 +1,5 @@
 use Rattle.std.proofs.Common.{refl}
+use Rattle.bd_top.proofs.DeorderLemmas.{ends_deordered, plan_known}
 use Rattle.bd_top.proofs.EndLemmas.{ends}
 use Rattle.bd_top.proofs.TextsLemmas.{ends_checked, noted, refused_ends}
 use Rattle.bd_top.proofs.alone.run_words.Goals as goal
@@ -7,7 +8,14 @@ pub returns-in-Ready-clause-ends : goal.returns-in-Ready-clause-ends
 returns-in-Ready-clause-ends g c = ends _ _ _ c.in-Ready.script c.in-Ready.ensures.prepared _ _ _ _ c.run_script.ensures
 
 pub returns-in-Valid-clause-ends : goal.returns-in-Valid-clause-ends
-returns-in-Valid-clause-ends g c = ends_checked _ _ _ c.in-Valid.cost _ _ _ _ c.in-Valid.ensures.prepared refl c.put_cost.ensures
+returns-in-Valid-clause-ends g c = ends_checked _ _ _ c.in-Valid.cost _ _ _ _ c.in-Valid.ensures.prepared.0 c.in-Valid.ensures.prepared.1 refl c.put_cost.ensures
+
+pub put_loosened-requires : goal.put_loosened-requires
+put_loosened-requires g c = plan_known _ _ _ c.in-Plan.task c.in-Plan.plan c.in-Plan.ensures.prepared.1
+
+pub returns-in-Plan-clause-ends : goal.returns-in-Plan-clause-ends
+returns-in-Plan-clause-ends g c =
+    ends_deordered _ _ _ c.in-Plan.task c.in-Plan.plan c.in-Plan.ensures.prepared.1 c.in-Plan.ensures.prepared.0 _ _ refl _ _ c.put_loosened.ensures
 
 pub returns-in-Refused-clause-ends : goal.returns-in-Refused-clause-ends
 returns-in-Refused-clause-ends g c =

@@ -1,0 +1,62 @@
+// The command `deorder`: a valid plan is deordered, its tree is tightened, and the tree's text is put.
+ghost use Rattle.std.specs.Prelude.{◌≡◌, ℕ, List};
+ghost use Rattle.bd_task.specs.TaskView.{TaskView};
+ghost use Rattle.plan_core.specs.Law.{IsPrintable};
+ghost use Rattle.bd_top.specs.Deorder.{IsKnown, Loosens, TellsTree, tight_record};
+
+use crate::alone::status_of;
+use crate::record::{End, RunRecord};
+use crate::replay::put_text;
+use crate::status::{Ended, Status};
+use bd_base::{ActList, FromItems, Items, Sink};
+use bd_report::tree_text;
+use bd_task::Task;
+use plan_core::Core;
+use plan_loosen::loosened;
+use std::alloc::Global;
+
+/// The greatest number of kids in a side of a gain.
+const SPAN: u32 = 12;
+
+// The record of a core whose tree is tight.
+fn tight_record(alloc: Global, core: Core) -> RunRecord
+    ensures recorded { result ≡ tight_record core }
+    ensures tree { IsPrintable result.task result.tree }
+{
+    let (task, start, history, tree) = core.into_parts();
+    RunRecord {
+        task,
+        start,
+        history: Items::of(history),
+        tree,
+        replies: Items::of(Vec::new(alloc)),
+        end: Some(End::Tight),
+    }
+}
+
+// Puts the text of a run's tree.
+fn put_tree<S: Sink>(alloc: Global, run: RunRecord, out: &mut S) -> Ended
+    requires { IsPrintable run.task run.tree }
+    ensures { (task : TaskView) (list : List ℕ) → Loosens task list run → TellsTree task list (record { before = S.told out.old; after = S.told out.new; faults = S.faults out.old; faults_after = S.faults out.new }) result.status result.run }
+{
+    let text = tree_text(alloc, &run.task, &run.tree);
+    let status = status_of(put_text(out, text));
+    Ended {
+        status,
+        run: Some(run),
+    }
+}
+
+/// Deorders a valid plan, takes gains until its tree is tight, and puts the tree's text.
+pub(crate) fn put_loosened<S: Sink>(alloc: Global, task: Task, plan: ActList, out: &mut S) -> Ended
+    requires { IsKnown task plan }
+    ensures { TellsTree task plan (record { before = S.told out.old; after = S.told out.new; faults = S.faults out.old; faults_after = S.faults out.new }) result.status result.run }
+{
+    match loosened(alloc, task, plan.as_slice(), SPAN) {
+        Ok(core) => put_tree(alloc, tight_record(alloc, core), out),
+        Err(_) => Ended {
+            status: Status::NoMemory,
+            run: None,
+        },
+    }
+}
