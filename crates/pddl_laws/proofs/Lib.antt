@@ -4,6 +4,7 @@ mod EffectLemmas
 mod ParamLemmas
 mod PlaceLemmas
 mod TypesLemmas
+mod TypesReadLemmas
 mod FunctionLemmas
 mod ActionLemmas
 mod OutlineLemmas

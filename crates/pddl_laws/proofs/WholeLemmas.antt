@@ -25,7 +25,8 @@ use Rattle.pddl_problem.specs.Whole.{objects_from, objects_scope, problem_of, in
 use Rattle.pddl_laws.specs.Whole.{TypesSection, ConstantsSection, PredicatesSection, FunctionsSection, ObjectsSection, SpellsDeclared, SpellsDomain, SpellsProblem}
 use Rattle.pddl_laws.proofs.GroupLemmas.{groups_read}
 use Rattle.pddl_laws.proofs.OutlineLemmas.{domain_outline_read, domain_outline_spelled, problem_outline_read, problem_outline_spelled}
-use Rattle.pddl_laws.proofs.TypesLemmas.{types_read, types_spelled}
+use Rattle.pddl_laws.proofs.TypesLemmas.{types_spelled}
+use Rattle.pddl_laws.proofs.TypesReadLemmas.{types_read}
 use Rattle.pddl_laws.proofs.FunctionLemmas.{functions_complete, functions_spelled}
 use Rattle.pddl_laws.proofs.ActionLemmas.{actions_complete, actions_spelled}
 use Rattle.pddl_laws.proofs.StatedLemmas.{stated_read, stated_spelled, goal_read, goal_spelled, metric_read, metric_spelled}

@@ -1,4 +1,5 @@
-use Rattle.pddl_laws.proofs.TypesLemmas.{types_read, types_spelled}
+use Rattle.pddl_laws.proofs.TypesLemmas.{types_spelled}
+use Rattle.pddl_laws.proofs.TypesReadLemmas.{types_read}
 use Rattle.pddl_laws.proofs.domains.types_law.Goals as goal
 
 pub returns : goal.returns
