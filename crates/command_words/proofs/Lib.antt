@@ -1,0 +1,3 @@
+mod AppLemmas
+mod NumberLemmas
+mod PassLemmas

@@ -1,0 +1,4 @@
+pub mod Apps
+pub mod Asked
+pub mod Behind
+pub mod Built
