@@ -20,7 +20,8 @@ use Rattle.bd_top.specs.declared.status.Status.TheVariants as status
 use Rattle.bd_top.specs.Prepared.{Names, NamesTexts, IsNamedRefusal, IsTextsRefusal, IsRefusal, TextsLead, Tells, file_by, name_by}
 use Rattle.bd_top.specs.Plans.{IsCheckedPlan}
 use Rattle.bd_top.specs.Taken.{Taken, HasFailed}
-use Rattle.bd_top.specs.Words.{texts_named, TextNames}
+use Rattle.bd_top.specs.Words.{texts_named}
+use Rattle.command_words.specs.Asked.{Names as TextNames}
 use Rattle.bd_top.specs.Run.{Ends, HasWriteFault, IsExactCheck, AreNamedTexts, IsGoodPlan, BreaksFirst, IsFirstFault, IsFaultless, IsDoneOrNoMemory}
 use Rattle.bd_top.proofs.CommandLemmas.{one_command}
 

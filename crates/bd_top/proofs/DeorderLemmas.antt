@@ -20,7 +20,7 @@ use Rattle.bd_top.specs.Prepared.{LeadToTask, NamesTexts}
 use Rattle.bd_top.specs.Replay.{Puts}
 use Rattle.bd_top.specs.Run.{Ends, status_by}
 use Rattle.bd_top.specs.Taken.{Taken, IsSilent}
-use Rattle.bd_top.specs.Words.{deorders}
+use Rattle.bd_top.specs.Words.{span_asked}
 
 abbrev passed : Option (Limit × ℕ)
 passed = Some (limits.Steps, 2_001)
@@ -52,12 +52,13 @@ module _ (words : List (List ℕ)) (tells : List ℕ → Told) (c : Counts) (tas
       let r = ready_texts task plan h.holds.cost (tells h.names.domain) (tells h.names.problem) (tells h.names.plan) c h.holds.leads in
       known_plan r.d r.p r.q task plan r.valid
 
-  module _ (asked : deorders words ≡ true) (out notes : Taken) (silent : IsSilent notes) where
-    deorder_run : (run : RunRecord) → Loosens task plan run → IsDeorderRun words tells run
+  module _ (span : ℕ) (asked : span_asked words ≡ Some span) (out notes : Taken) (silent : IsSilent notes) where
+    deorder_run : (run : RunRecord) → Loosens task plan span run → IsDeorderRun words tells run
     deorder_run run l =
         let r = ready_texts task plan h.holds.cost (tells h.names.domain) (tells h.names.problem) (tells h.names.plan) c h.holds.leads in
         record {
-          deorders = asked;
+          span = span;
+          asked = asked;
           cost = h.holds.cost;
           checked = record {
             names = h.names;
@@ -76,7 +77,7 @@ module _ (words : List (List ℕ)) (tells : List ℕ → Told) (c : Counts) (tas
           loosens = l;
         }
 
-    pub ends_deordered : (st : Status) (run : Option RunRecord) → TellsTree task plan out st run → Ends words tells c out notes st run
+    pub ends_deordered : (st : Status) (run : Option RunRecord) → TellsTree task plan span out st run → Ends words tells c out notes st run
     ends_deordered status.Done (Some run) t = inr (record { is_run = deorder_run run t.0; printed = t.1; noted = silent })
     ends_deordered status.WriteFault (Some run) t = inr (record { is_run = deorder_run run t.0; printed = t.1; noted = silent })
     ends_deordered status.NoMemory (Some run) t = inr (record { is_run = deorder_run run t.0; nothing = t.1; noted = silent })
@@ -84,11 +85,11 @@ module _ (words : List (List ℕ)) (tells : List ℕ → Told) (c : Counts) (tas
     ends_deordered st run t = absurd t
 
 -- the put of a tree's text
-module _ (task : TaskView) (list : List ℕ) (run : RunRecord) (out : Taken) (loosens : Loosens task list run) where
-  told_by : (put : Result (Unit {0}) Stop) → Puts (told_tree run) out put → TellsTree task list out (status_by put) (Some run)
+module _ (task : TaskView) (list : List ℕ) (span : ℕ) (run : RunRecord) (out : Taken) (loosens : Loosens task list span run) where
+  told_by : (put : Result (Unit {0}) Stop) → Puts (told_tree run) out put → TellsTree task list span out (status_by put) (Some run)
   told_by (Ok done) h = (loosens, h)
   told_by (Err stop.WriteFault) h = (loosens, h)
   told_by (Err stop.NoMemory) h = (loosens, h)
 
-  pub tells_tree : (put : Result (Unit {0}) Stop) (st : Status) → st ≡ status_by put → Puts (told_tree run) out put → TellsTree task list out st (Some run)
-  tells_tree put st is h = subst (λ z. TellsTree task list out z (Some run)) (sym is) (told_by put h)
+  pub tells_tree : (put : Result (Unit {0}) Stop) (st : Status) → st ≡ status_by put → Puts (told_tree run) out put → TellsTree task list span out st (Some run)
+  tells_tree put st is h = subst (λ z. TellsTree task list span out z (Some run)) (sym is) (told_by put h)

@@ -16,7 +16,8 @@ use Rattle.bd_top.specs.declared.status.Status.{Status}
 use Rattle.bd_top.specs.declared.status.Status.TheVariants as status
 use Rattle.task_inputs.specs.Reads.{Counts, WasRead, IsToldAs}
 use Rattle.bd_top.specs.Prepared.{Names, NamesTexts, IsNamedRefusal, IsTextsRefusal, IsReadyText, IsTextRefusal, IsBroken, IsNoScript, IsUnsoundStart}
-use Rattle.bd_top.specs.Words.{script_named, texts_named, TextNames}
+use Rattle.bd_top.specs.Words.{script_named, texts_named}
+use Rattle.command_words.specs.Asked.{Names as TextNames}
 use Rattle.bd_top.specs.Run.{Ends, IsAllDone, IsDecided, IsExact, IsExactRun, IsExactCheck, IsNamedText}
 use Rattle.bd_top.specs.Taken.{Taken}
 use Rattle.bd_top.proofs.CompleteLemmas.{no_ready_refusal}

@@ -11,3 +11,4 @@ pub mod TextLemmas
 pub mod ReplayLemmas
 pub mod EndLemmas
 pub mod DeorderLemmas
+pub mod WordsLemmas

@@ -78,5 +78,5 @@ module _ (told : Told) (c : Counts) (v : Vec ℕ Global) (t : List ℕ) (same : 
   named name (prepared.Ready script) h = was _ h
   named name (prepared.Refused why line) h = named_refusal name why line h
   named name (prepared.Valid cost) h = absurd h
-  named name (prepared.Plan task plan) h = absurd h
+  named name (prepared.Plan task plan span) h = absurd h
   named name prepared.NoMemory h = tt

@@ -1,6 +1,6 @@
 -- How the command `deorder` ends: with the run of a core that opened on the deordered tree of the plan and took gains until
 -- its tree was tight, and with the text of that tree.
-use Rattle.std.specs.Prelude.{◌≡◌, ℕ, ◌<◌, ◌≤◌, true, All, List, [], length, Option, Some, None}
+use Rattle.std.specs.Prelude.{◌≡◌, ℕ, ◌<◌, ◌≤◌, All, List, [], length, Option, Some, None}
 use Rattle.bd_base.specs.Shelf.{Told}
 use Rattle.bd_task.specs.TaskView.{TaskView}
 use Rattle.bd_task.specs.Valid.{IsValid}
@@ -13,7 +13,7 @@ use Rattle.bd_top.specs.declared.status.Status.{Status}
 use Rattle.bd_top.specs.declared.status.Status.TheVariants as status
 use Rattle.bd_top.specs.Plans.{IsCheckedPlan}
 use Rattle.bd_top.specs.Taken.{Taken, IsSilent, Receives, IsCut}
-use Rattle.bd_top.specs.Words.{deorders}
+use Rattle.bd_top.specs.Words.{span_asked}
 
 -- the record of a core whose tree is tight
 abbrev pub tight_record : CoreView → RunRecord
@@ -27,18 +27,19 @@ tight_record core = record {
 }
 
 -- The run loosens a list: it starts from a deordered tree of the list, its history has tightenings alone and replays to its
--- tree, that tree is tight at span 12, and the run ends so. At each place each linearisation of the tree is valid.
-pub record Loosens (task : TaskView) (list : List ℕ) (run : RunRecord) : Type 0 where
+-- tree, that tree is tight at the span, and the run ends so. At each place each linearisation of the tree is valid.
+pub record Loosens (task : TaskView) (list : List ℕ) (span : ℕ) (run : RunRecord) : Type 0 where
   pub core : CoreView
   pub recorded : run ≡ tight_record core
-  pub loosened : IsLoosened task list 12 core
+  pub loosened : IsLoosened task list span core
 
--- the words are `deorder` and three texts that give a task and a valid plan, and the run loosens the plan
+-- the words ask to deorder the plan of three texts, which give a task and a valid plan, and the run loosens it at the span of the words
 pub record IsDeorderRun (words : List (List ℕ)) (tells : List ℕ → Told) (run : RunRecord) : Type 0 where
-  pub deorders : deorders words ≡ true
+  pub span : ℕ
+  pub asked : span_asked words ≡ Some span
   pub cost : ℕ
   pub checked : IsCheckedPlan words tells cost
-  pub loosens : Loosens checked.task checked.list run
+  pub loosens : Loosens checked.task checked.list span run
 
 -- the text of a run's tree
 abbrev pub told_tree : RunRecord → List ℕ
@@ -69,9 +70,9 @@ pub record IsKnown (task : TaskView) (list : List ℕ) : Type 0 where
   pub valid : IsValid task list
 
 -- what the deordering of a list, the tightening of its tree and the put of the tree's text end with
-abbrev pub TellsTree : TaskView → List ℕ → Taken → Status → Option RunRecord → Type 0
-TellsTree task list out status.Done (Some run) = Loosens task list run × Receives out (told_tree run)
-TellsTree task list out status.WriteFault (Some run) = Loosens task list run × IsCut out (told_tree run)
-TellsTree task list out status.NoMemory (Some run) = Loosens task list run × IsSilent out
-TellsTree task list out status.NoMemory None = IsSilent out
-TellsTree task list out other run = ⊥
+abbrev pub TellsTree : TaskView → List ℕ → ℕ → Taken → Status → Option RunRecord → Type 0
+TellsTree task list span out status.Done (Some run) = Loosens task list span run × Receives out (told_tree run)
+TellsTree task list span out status.WriteFault (Some run) = Loosens task list span run × IsCut out (told_tree run)
+TellsTree task list span out status.NoMemory (Some run) = Loosens task list span run × IsSilent out
+TellsTree task list span out status.NoMemory None = IsSilent out
+TellsTree task list span out other run = ⊥

@@ -5,7 +5,8 @@ use Rattle.bd_task.specs.TaskView.{TaskView}
 use Rattle.bd_task.specs.Valid.{cost_of}
 use Rattle.task_inputs.specs.Inputs.{IsValidPlan}
 use Rattle.task_inputs.specs.Reads.{IsToldAs}
-use Rattle.bd_top.specs.Words.{texts_named, TextNames}
+use Rattle.bd_top.specs.Words.{texts_named}
+use Rattle.command_words.specs.Asked.{Names as TextNames}
 
 -- The words name a domain, a problem and a plan, whose texts, as they were read, give a task and a valid plan for it of this cost.
 pub record IsCheckedPlan (words : List (List ℕ)) (tells : List ℕ → Told) (cost : ℕ) : Type 0 where

@@ -1,5 +1,5 @@
 -- How a run ends, and what its sinks have received then.
-use Rattle.std.specs.Prelude.{◌≡◌, ◌⊎◌, ◌↔◌, ℕ, ◌≤◌, ◌==◌, false, if◌then◌else◌, List, [], ◌∷◌, length, take, Option, Some, None, Result, Ok, Err}
+use Rattle.std.specs.Prelude.{◌≡◌, ◌⊎◌, ◌↔◌, ℕ, ◌≤◌, ◌==◌, if◌then◌else◌, List, [], ◌∷◌, length, take, Option, Some, None, Result, Ok, Err}
 use Rattle.bd_base.specs.Causes.{Rose}
 use Rattle.bd_base.specs.Shelf.{Told, text}
 use Rattle.bd_base.specs.declared.text_err.Cause.{Cause}
@@ -33,7 +33,8 @@ use Rattle.bd_top.specs.Prepared.{IsReady, IsReadyText, IsRefusal, IsTextRefusal
 use Rattle.bd_top.specs.Replay.{Makes, IsTold}
 use Rattle.bd_top.specs.Taken.{Taken, IsSilent, Receives, ReceivesPart, HasFailed, IsCut}
 use Rattle.bd_top.specs.Texts.{summary_of, printed_of, noted_of, valid_line}
-use Rattle.bd_top.specs.Words.{deorders, script_named, texts_named, TextNames}
+use Rattle.bd_top.specs.Words.{script_named, span_asked, texts_named}
+use Rattle.command_words.specs.Asked.{Names as TextNames}
 
 -- a run ends with its script where every offer was made
 abbrev pub end_of : List Offer → List (Result ℕ Refusal) → Option End
@@ -89,7 +90,7 @@ pub record IsWriteFault (words : List (List ℕ)) (tells : List ℕ → Told) (o
 
 -- the plan was only checked, and `out` has received exactly its cost
 pub record IsChecked (words : List (List ℕ)) (tells : List ℕ → Told) (out notes : Taken) : Type 0 where
-  pub checks : deorders words ≡ false
+  pub checks : span_asked words ≡ None
   pub cost : ℕ
   pub checked : IsCheckedPlan words tells cost
   pub printed : Receives out (valid_line cost)
@@ -97,7 +98,7 @@ pub record IsChecked (words : List (List ℕ)) (tells : List ℕ → Told) (out 
 
 -- the plan was only checked, but `out` failed within its cost
 pub record IsCheckCut (words : List (List ℕ)) (tells : List ℕ → Told) (out notes : Taken) : Type 0 where
-  pub checks : deorders words ≡ false
+  pub checks : span_asked words ≡ None
   pub cost : ℕ
   pub checked : IsCheckedPlan words tells cost
   pub printed : IsCut out (valid_line cost)

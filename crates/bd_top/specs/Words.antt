@@ -1,34 +1,25 @@
--- What the program's words ask for.
-use Rattle.std.specs.Prelude.{ℕ, Bool, false, ◌||◌, List, [], ◌∷◌, Option, Some, None, codes, cond}
-use Rattle.std.specs.Str.{bytes_eq}
+-- What the program's words ask of it. `improve` and `bench` are read, and not done yet.
+use Rattle.std.specs.Prelude.{ℕ, List, Option, Some, None, option_and_then, option_map}
+use Rattle.command_words.specs.Asked.{Names, check_asked, deorder_asked, replay_asked}
 
--- the script's name, where the words are `replay` and one more
-abbrev pub script_named : List (List ℕ) → Option (List ℕ)
-script_named [] = None
-script_named (command ∷ []) = None
-script_named (command ∷ name ∷ []) = cond (bytes_eq command (codes "replay")) (Some name) None
-script_named (command ∷ name ∷ more ∷ rest) = None
+-- the names of the texts of a plan, and the span, where the plan is to be deordered and not only checked
+abbrev pub texts_by : Option Names → Option (Names × ℕ) → Option (Names × Option ℕ)
+texts_by (Some names) deorder = Some (names, None)
+texts_by None None = None
+texts_by None (Some asked) = Some (asked.0, Some asked.1)
 
--- the names of a domain, a problem and a plan
-pub record TextNames : Type 0 where
-  pub domain : List ℕ
-  pub problem : List ℕ
-  pub plan : List ℕ
+-- `check` or `deorder`: the names of the texts and the span
+unfoldable pub texts_asked : List (List ℕ) → Option (Names × Option ℕ)
+texts_asked words = texts_by (check_asked words) (deorder_asked words)
 
--- whether the command takes a domain, a problem and a plan
-abbrev pub takes_texts : List ℕ → Bool
-takes_texts command = bytes_eq command (codes "check") || bytes_eq command (codes "deorder")
+-- `check` or `deorder`: the names of the texts
+abbrev pub texts_named : List (List ℕ) → Option Names
+texts_named words = option_map (λ asked. asked.0) (texts_asked words)
 
--- whether the words begin with `deorder`
-abbrev pub deorders : List (List ℕ) → Bool
-deorders [] = false
-deorders (command ∷ rest) = bytes_eq command (codes "deorder")
+-- `deorder`: the span
+abbrev pub span_asked : List (List ℕ) → Option ℕ
+span_asked words = option_and_then (λ asked. asked.1) (texts_asked words)
 
--- the names of the texts, where the words are `check` or `deorder` and three more
-abbrev pub texts_named : List (List ℕ) → Option TextNames
-texts_named [] = None
-texts_named (command ∷ []) = None
-texts_named (command ∷ domain ∷ []) = None
-texts_named (command ∷ domain ∷ problem ∷ []) = None
-texts_named (command ∷ domain ∷ problem ∷ plan ∷ []) = cond (takes_texts command) (Some (record { domain = domain; problem = problem; plan = plan })) None
-texts_named (command ∷ domain ∷ problem ∷ plan ∷ more ∷ rest) = None
+-- `replay`: the name of the script
+unfoldable pub script_named : List (List ℕ) → Option (List ℕ)
+script_named words = replay_asked words

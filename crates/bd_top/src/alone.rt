@@ -219,7 +219,7 @@ fn run_words<H: Shelf, S: Sink, E: Sink>(
     match prepare_words(alloc, words, shelf) {
         Prepared::Ready(script) => run_script(alloc, script, out, notes),
         Prepared::Valid { cost } => put_cost(alloc, cost, out),
-        Prepared::Plan { task, plan } => put_loosened(alloc, task, plan, out),
+        Prepared::Plan { task, plan, span } => put_loosened(alloc, task, plan, span, out),
         Prepared::Refused { status, line } => {
             let _ = notes.put(line.as_slice());
             Ended { status, run: None }

@@ -15,9 +15,6 @@ use plan_core::Core;
 use plan_loosen::loosened;
 use std::alloc::Global;
 
-/// The greatest number of kids in a side of a gain.
-const SPAN: u32 = 12;
-
 // The record of a core whose tree is tight.
 fn tight_record(alloc: Global, core: Core) -> RunRecord
     ensures recorded { result ≡ tight_record core }
@@ -37,7 +34,7 @@ fn tight_record(alloc: Global, core: Core) -> RunRecord
 // Puts the text of a run's tree.
 fn put_tree<S: Sink>(alloc: Global, run: RunRecord, out: &mut S) -> Ended
     requires { IsPrintable run.task run.tree }
-    ensures { (task : TaskView) (list : List ℕ) → Loosens task list run → TellsTree task list (record { before = S.told out.old; after = S.told out.new; faults = S.faults out.old; faults_after = S.faults out.new }) result.status result.run }
+    ensures { (task : TaskView) (list : List ℕ) (span : ℕ) → Loosens task list span run → TellsTree task list span (record { before = S.told out.old; after = S.told out.new; faults = S.faults out.old; faults_after = S.faults out.new }) result.status result.run }
 {
     let text = tree_text(alloc, &run.task, &run.tree);
     let status = status_of(put_text(out, text));
@@ -47,12 +44,18 @@ fn put_tree<S: Sink>(alloc: Global, run: RunRecord, out: &mut S) -> Ended
     }
 }
 
-/// Deorders a valid plan, takes gains until its tree is tight, and puts the tree's text.
-pub(crate) fn put_loosened<S: Sink>(alloc: Global, task: Task, plan: ActList, out: &mut S) -> Ended
+/// Deorders a valid plan, takes gains until its tree is tight at the span, and puts the tree's text.
+pub(crate) fn put_loosened<S: Sink>(
+    alloc: Global,
+    task: Task,
+    plan: ActList,
+    span: u32,
+    out: &mut S,
+) -> Ended
     requires { IsKnown task plan }
-    ensures { TellsTree task plan (record { before = S.told out.old; after = S.told out.new; faults = S.faults out.old; faults_after = S.faults out.new }) result.status result.run }
+    ensures { TellsTree task plan span (record { before = S.told out.old; after = S.told out.new; faults = S.faults out.old; faults_after = S.faults out.new }) result.status result.run }
 {
-    match loosened(alloc, task, plan.as_slice(), SPAN) {
+    match loosened(alloc, task, plan.as_slice(), span) {
         Ok(core) => put_tree(alloc, tight_record(alloc, core), out),
         Err(_) => Ended {
             status: Status::NoMemory,

@@ -1,6 +1,6 @@
 ghost use Rattle.std.specs.Prelude.{◌≡◌, ℕ, ◌<◌, ◌≤◌, ◌^◌, List, Err, IfOk, IfErr, All, length, MatchResult, map, string_bytes};
 ghost use Rattle.bd_task.specs.Valid.{IsValid};
-ghost use Rattle.bd_top.specs.Prepared.{Prepares, PreparesNamed, PreparesText, PreparesScript, HasFact, HasUnsoundStart, IsBounded, IsFirstBreak, IsReadFault, JudgesStart};
+ghost use Rattle.bd_top.specs.Prepared.{Prepares, PreparesNamed, PreparesText, PreparesScript, HasFact, HasUnsoundStart, IsBounded, IsFirstBreak, IsReadFault, IsUsage, JudgesStart};
 ghost use Rattle.script_text.specs.Limits.{Spelled, Answers};
 ghost use Rattle.script_text.specs.Lines.{worded};
 ghost use Rattle.script_text.specs.Whole.{script_at};
@@ -9,10 +9,11 @@ ghost use Rattle.bd_top.specs.declared.prepare.Prepared.TheVariants.{Refused as 
 use crate::notes::{broken_note, over_note, refused_note, unread_note};
 use crate::status::{File, Status};
 use crate::texts::prepare_texts;
-use crate::usage::{deorders, script_name, text_names, usage_note};
+use crate::usage::usage_note;
 use bd_base::{ActList, Cause, Limit, NoMemory, Shelf, ShelfErr, Text, TextErr};
 use bd_links::check;
 use bd_task::Task;
+use command_words::{Request, request_of};
 use script_text::{Script, read_script};
 use seq_check::{Broken, validate};
 use std::alloc::Global;
@@ -26,11 +27,20 @@ pub enum Prepared {
     /// A script whose plan is valid and whose start tree is sound.
     Ready(Script),
     /// A valid plan, with its cost.
-    Valid { cost: u64 },
-    /// A valid plan that is to be deordered, with its task.
-    Plan { task: Task, plan: ActList },
+    Valid {
+        cost: u64,
+    },
+    /// A valid plan that is to be deordered and tightened at a span, with its task.
+    Plan {
+        task: Task,
+        plan: ActList,
+        span: u32,
+    },
     /// A refusal, and the line that names it.
-    Refused { status: Status, line: Text },
+    Refused {
+        status: Status,
+        line: Text,
+    },
     /// Memory was wanting.
     NoMemory,
 }
@@ -176,17 +186,29 @@ fn prepare_named<H: Shelf>(alloc: Global, name: &str, shelf: &mut H) -> Prepared
     }
 }
 
+// The refusal of words that ask for nothing that is done.
+fn misused(alloc: Global) -> Prepared
+    ensures { IsUsage result }
+{
+    refused(Status::Usage, usage_note(alloc))
+}
+
 /// Reads and judges what the words name. The shelf still tells what it told.
 pub fn prepare_words<H: Shelf>(alloc: Global, words: &[String], shelf: &mut H) -> Prepared
     ensures prepared { Prepares (map string_bytes words.now) (H.tells shelf.old)
         (record { faults = H.faults shelf.old; faults_after = H.faults shelf.new; longs = H.longs shelf.old; longs_after = H.longs shelf.new }) result }
     ensures told { (n : List ℕ) → H.tells shelf.new n ≡ H.tells shelf.old n }
 {
-    match script_name(words) {
-        Some(name) => prepare_named(alloc, name, shelf),
-        None => match text_names(words) {
-            Some(names) => prepare_texts(alloc, &names, deorders(words), shelf),
-            None => refused(Status::Usage, usage_note(alloc)),
-        },
+    match request_of(alloc, words) {
+        Ok(Some(Request::Replay { script })) => prepare_named(alloc, script, shelf),
+        Ok(Some(Request::Check { texts })) => prepare_texts(alloc, &texts, None, shelf),
+        Ok(Some(Request::Deorder { texts, span })) => {
+            prepare_texts(alloc, &texts, Some(span), shelf)
+        }
+        // They are read, and not done yet.
+        Ok(Some(Request::Improve { .. })) => misused(alloc),
+        Ok(Some(Request::Bench { .. })) => misused(alloc),
+        Ok(None) => misused(alloc),
+        Err(NoMemory) => Prepared::NoMemory,
     }
 }

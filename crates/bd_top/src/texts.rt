@@ -5,8 +5,8 @@ ghost use Rattle.bd_top.specs.Prepared.{PreparesTexts, IsPreparedOf, file_by, na
 use crate::notes::{broken_note, over_note, refused_note, unread_note};
 use crate::prepare::{Prepared, refused, unread};
 use crate::status::{File, Status};
-use crate::usage::TextNames;
 use bd_base::Shelf;
+use command_words::TextNames;
 use std::alloc::Global;
 use task_inputs::{Inputs, Part, inputs};
 
@@ -31,16 +31,15 @@ fn name_of<'a>(names: &TextNames<'a>, part: Part) -> &'a str
 }
 
 // What is prepared of what texts lead to.
-fn told(alloc: Global, names: &TextNames, deorders: bool, inputs: Inputs) -> Prepared
+fn told(alloc: Global, names: &TextNames, span: Option<u32>, inputs: Inputs) -> Prepared
     requires { IsInTask inputs }
-    ensures { IsPreparedOf deorders (record { domain = names.now.domain.now; problem = names.now.problem.now; plan = names.now.plan.now }) inputs result }
+    ensures { IsPreparedOf span (record { domain = names.now.domain.now; problem = names.now.problem.now; plan = names.now.plan.now }) inputs result }
 {
     match inputs {
         Inputs::Ready { task, plan, cost } => {
-            if deorders {
-                Prepared::Plan { task, plan }
-            } else {
-                Prepared::Valid { cost }
+            match span {
+                Some(span) => Prepared::Plan { task, plan, span },
+                None => Prepared::Valid { cost },
             }
         }
         Inputs::Unread { part, missing } => unread(alloc, name_of(names, part), missing),
@@ -61,17 +60,17 @@ fn told(alloc: Global, names: &TextNames, deorders: bool, inputs: Inputs) -> Pre
     }
 }
 
-/// Reads and judges three texts, whose plan is to be deordered or only checked. The shelf still tells what it told.
+/// Reads and judges three texts, whose plan is to be deordered at a span or only checked. The shelf still tells what it told.
 pub fn prepare_texts<H: Shelf>(
     alloc: Global,
     names: &TextNames,
-    deorders: bool,
+    span: Option<u32>,
     shelf: &mut H,
 ) -> Prepared
-    ensures prepared { PreparesTexts deorders (record { domain = names.now.domain.now; problem = names.now.problem.now; plan = names.now.plan.now }) (H.tells shelf.old)
+    ensures prepared { PreparesTexts span (record { domain = names.now.domain.now; problem = names.now.problem.now; plan = names.now.plan.now }) (H.tells shelf.old)
         (record { faults = H.faults shelf.old; faults_after = H.faults shelf.new; longs = H.longs shelf.old; longs_after = H.longs shelf.new }) result }
     ensures told { (n : List ℕ) → H.tells shelf.new n ≡ H.tells shelf.old n }
 {
     let result = inputs(alloc, names.domain, names.problem, names.plan, shelf);
-    told(alloc, names, deorders, result)
+    told(alloc, names, span, result)
 }

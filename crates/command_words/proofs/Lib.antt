@@ -1,3 +1,4 @@
 mod AppLemmas
+pub mod Laws
 mod NumberLemmas
 mod PassLemmas

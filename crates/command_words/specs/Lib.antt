@@ -1,3 +1,4 @@
+pub mod Alone
 pub mod Apps
 pub mod Asked
 pub mod Behind

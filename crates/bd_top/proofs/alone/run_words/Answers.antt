@@ -15,7 +15,7 @@ put_loosened-requires g c = plan_known _ _ _ c.in-Plan.task c.in-Plan.plan c.in-
 
 pub returns-in-Plan-clause-ends : goal.returns-in-Plan-clause-ends
 returns-in-Plan-clause-ends g c =
-    ends_deordered _ _ _ c.in-Plan.task c.in-Plan.plan c.in-Plan.ensures.prepared.1 c.in-Plan.ensures.prepared.0 _ _ refl _ _ c.put_loosened.ensures
+    ends_deordered _ _ _ c.in-Plan.task c.in-Plan.plan c.in-Plan.ensures.prepared.1 c.in-Plan.span c.in-Plan.ensures.prepared.0 _ _ refl _ _ c.put_loosened.ensures
 
 pub returns-in-Refused-clause-ends : goal.returns-in-Refused-clause-ends
 returns-in-Refused-clause-ends g c =
