@@ -125,7 +125,7 @@ module _ (core : CoreView) (span : ℕ) (gain : Gain) (is : IsCore core) (takes 
   sides_are : are_sides root block gain.left gain.right core.next ≡ true
   sides_are = subst (λ n. are_sides root block gain.left gain.right n ≡ true) (sym takes.fresh) (and_from _ _ (and_from _ _ (and_from _ _ two left_groups.convex) fit.right_convex) fit.free)
 
-  gain_takable : span < 2 ^ 32 → Qualifies core.task core.tree gain → IsTakable core gain
+  pub gain_takable : span < 2 ^ 32 → Qualifies core.task core.tree gain → IsTakable core gain
   gain_takable small q = record {
     may = record {
       is_open = stays_open core takes;

@@ -1,3 +1,4 @@
-mod FlatLemmas
-mod GainLemmas
-mod TakenLemmas
+pub mod FlatLemmas
+pub mod GainLemmas
+pub mod PairLemmas
+pub mod TakenLemmas

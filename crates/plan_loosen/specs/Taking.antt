@@ -1,11 +1,13 @@
 -- Inner: serves this crate's own proofs alone.
 -- Gains that a core takes one after another.
-use Rattle.std.specs.Prelude.{◌≡◌, ℕ, ◌+◌, ◌≤◌, Bool, true, false, List, length}
+use Rattle.std.specs.Prelude.{◌≡◌, ℕ, ◌+◌, ◌≤◌, Bool, true, false, List, [], ◌∷◌, length, Option, Some, None}
+use Rattle.bd_base.specs.Pairs.{without_pair}
 use Rattle.bd_task.specs.TaskView.{TaskView}
-use Rattle.bd_tree.specs.Tree.{ids_of, greatest, pairs_of}
+use Rattle.bd_tree.specs.declared.node.Node.{Node, Block}
+use Rattle.bd_tree.specs.Tree.{id_of, ids_of, greatest, pairs_of}
 use Rattle.bd_deorder.specs.Deordered.{IsDeordered}
 use Rattle.bd_tight.specs.declared.gain.Gain.{Gain}
-use Rattle.plan_core.specs.Core.{CoreView}
+use Rattle.plan_core.specs.Core.{CoreView, accepted}
 use Rattle.plan_core.specs.Law.{OpensOn}
 use Rattle.plan_core.specs.Replies.{IsLent, MayTighten}
 use Rattle.plan_core.specs.declared.offer.Offer.TheVariants.{Tighten}
@@ -36,3 +38,18 @@ pub record IsOpened (task : TaskView) (list : List ℕ) (core : CoreView) : Type
 abbrev pub wants_memory : Refusal → Bool
 wants_memory NoMemory = true
 wants_memory other = false
+
+-- the gain of two kids of a block, each by itself
+abbrev pub pair_if : ℕ → Option Node → Option Node → Option Gain
+pair_if block None second = None
+pair_if block (Some a) None = None
+pair_if block (Some a) (Some b) = Some (record { block = block; left = id_of a ∷ []; right = id_of b ∷ [] })
+
+-- a gain that may be taken, and that takes the pair out of the root's order
+pub record TakesPair (core : CoreView) (pair : ℕ × ℕ) (gain : Gain) : Type 0 where
+  pub takable : IsTakable core gain
+  pub own : ℕ
+  pub kids : List Node
+  pub order : List (ℕ × ℕ)
+  pub is : core.tree ≡ Block own kids order
+  pub leaves : (accepted (Tighten gain.block gain.left gain.right) core).tree ≡ Block own kids (without_pair pair.0 pair.1 order)

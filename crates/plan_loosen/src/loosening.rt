@@ -6,21 +6,25 @@ ghost use Rattle.plan_loosen.specs.Loosened.{IsLoosened};
 ghost use Rattle.plan_loosen.specs.Taking.{TakesGains};
 
 use crate::opening::opened;
+use crate::pairs::take_pairs;
 use crate::taking::{gain_of, take};
 use bd_base::{ActionId, NoMemory};
 use bd_task::Task;
 use plan_core::Core;
 use std::alloc::Global;
 
-// Takes gains until there is none. After an error some were taken.
+// Takes gains until there is none: of single kids of the root by its kept rows, and where there are none, another. After an error
+// some were taken.
 fn tighten(alloc: Global, core: &mut Core, span: u32) -> Result<(), NoMemory>
     requires { TakesGains core.old }
     ensures opens { OnOk result (OpensOn core.old.task core.old.start core.old.stop core.new) }
     ensures gains { OnOk result (TakesGains core.new) }
     ensures tight { OnOk result (IsTight core.new.task core.new.tree span) }
 {
+    take_pairs(alloc, core)?;
     while let Some(gain) = gain_of(alloc, core, span)? {
         take(alloc, core, gain)?;
+        take_pairs(alloc, core)?;
     }
     Ok(())
 }

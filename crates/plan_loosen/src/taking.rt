@@ -39,6 +39,7 @@ pub(crate) fn take(alloc: Global, core: &mut Core, gain: Gain) -> Result<(), NoM
     ensures opens { OnOk result (OpensOn core.old.task core.old.start core.old.stop core.new) }
     ensures gains { OnOk result (TakesGains core.new) }
     ensures fewer { OnOk result (pairs_of core.new.tree < pairs_of core.old.tree) }
+    ensures taken { OnOk result (core.new ≡ accepted (Tighten gain.block gain.left gain.right) core.old) }
 {
     core.keeps();
     let Gain { block, left, right } = gain;
