@@ -1,0 +1,8 @@
+use Rattle.std.proofs.Common.{rules}
+use Rattle.bd_gen.specs.Errands.{errand_lines}
+use Rattle.bd_gen.proofs.TurnLemmas.{one_more}
+use Rattle.bd_gen.proofs.lines.push_errands.Goals as goal
+
+pub loop-i-preserved : goal.loop-i-preserved
+loop-i-preserved c =
+    (one_more errand_lines c.args.text.now.items c.loop-i.text.items c.push_errand.new.text.items c.loop-i.i c.loop-i.invariant.0 c.in_ok-push_errand.ensures, search rules)
