@@ -1,1 +1,2 @@
+pub mod DearestLemmas
 pub mod KeptLemmas

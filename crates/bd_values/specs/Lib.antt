@@ -1,1 +1,2 @@
+pub mod Dearest
 pub mod Kept

@@ -1,22 +1,15 @@
-ghost use Rattle.std.specs.Prelude.{◌≡◌, ℕ, ◌<◌, ◌++◌, ◌∷◌, [], not, ◌&&◌, true, ◌⊎◌, length, Some, IfSome, slice_get, IfOk};
+ghost use Rattle.std.specs.Prelude.{◌≡◌, ℕ, ◌++◌, ◌∷◌, [], true, ◌⊎◌, Some, IfSome, slice_get, IfOk};
 ghost use Rattle.bd_base.specs.Facts.{has};
-ghost use Rattle.bd_heur.specs.Core.{AreCore, AgreeOn};
-ghost use Rattle.bd_heur.specs.Relaxed.{goal_value, value_of_all};
+ghost use Rattle.bd_heur.specs.Core.{AreCore};
+ghost use Rattle.bd_heur.specs.Relaxed.{goal_value};
 ghost use Rattle.bd_heur.specs.Index.{IsRunnable, IsIndex};
-ghost use Rattle.bd_values.specs.Kept.{IsKept, AreKept, IsCoreOf, value_over};
+ghost use Rattle.bd_values.specs.Kept.{IsCoreOf};
 
+use crate::entry::{Kept, agrees, entry_of, value_by};
 use bd_base::{ActionId, FactSet, NoMemory};
-use bd_heur::{ActionIndex, Join, joined, runnable, value_at, values};
+use bd_heur::{ActionIndex, Join, runnable};
 use bd_task::Task;
 use std::alloc::Global;
-
-/// A core state with the values of all facts in it, and the actions that run there.
-#[derive(Debug, Drop)]
-pub(crate) struct Kept {
-    pub(crate) state: FactSet,
-    pub(crate) table: Vec<Option<u64>>,
-    pub(crate) runs: FactSet,
-}
 
 /// Core states of a task with their values, kept over many searches: at most as many as there are slots
 /// (and one at least); when they are full, all are dropped. No answer depends on what is kept. The slots
@@ -40,32 +33,6 @@ fn core_of(alloc: Global, task: &Task) -> Result<FactSet, NoMemory>
     Ok(core)
 }
 
-// The core facts of a state.
-fn core_part(alloc: Global, core: &FactSet, s: &FactSet) -> Result<FactSet, NoMemory>
-    ensures { IfOk result (λ part. (q : ℕ) → has part q ≡ (has s.now q && has core.now q)) }
-{
-    let mut others = s.try_copy(alloc)?;
-    others.minus(core);
-    let mut part = s.try_copy(alloc)?;
-    part.minus(&others);
-    Ok(part)
-}
-
-// Whether the core facts of a state are a core state's.
-fn agrees(core: &FactSet, s: &FactSet, state: &FactSet) -> bool
-    ensures { result ≡ true → AgreeOn core.now s.now state.now }
-{
-    if !state.subset(s) {
-        return false;
-    }
-    for f in s.iter() {
-        if core.has(f) && !state.has(f) {
-            return false;
-        }
-    }
-    true
-}
-
 // A number for the core facts of a state.
 fn hash_of(core: &FactSet, s: &FactSet) -> u64 {
     let mut sum = 0u64;
@@ -75,22 +42,6 @@ fn hash_of(core: &FactSet, s: &FactSet) -> u64 {
         }
     }
     sum
-}
-
-// The values of facts joined: 0 in the state, and else those of the table.
-fn value_of_facts(join: Join, s: &FactSet, table: &[Option<u64>], facts: &FactSet) -> Option<u64>
-    ensures { result ≡ value_of_all join (value_over s.now table.now) (Some 0) facts.now }
-{
-    let mut value = Some(0);
-    for p in facts.iter() {
-        let own = if s.has(p) {
-            Some(0)
-        } else {
-            value_at(table, p)
-        };
-        value = joined(join, value, own);
-    }
-    value
 }
 
 // The entry of a slot.
@@ -123,12 +74,10 @@ fn keep(
     Ok(())
 }
 
-// The slot of a state.
+// The slot of a state: the upper half of its number, spread by a factor, as a part of the count of slots.
 fn slot_of(core: &FactSet, slots: &[usize], s: &FactSet) -> usize {
-    if slots.len() == 0 {
-        return 0;
-    }
-    hash_of(core, s) as usize % slots.len()
+    let spread = hash_of(core, s).wrapping_mul(0x9E37_79B9_7F4A_7C15) >> 32;
+    (spread.wrapping_mul(slots.len() as u64) >> 32) as usize
 }
 
 // The value of the goal, where the core state is kept.
@@ -136,14 +85,13 @@ fn known_value(states: &CoreStates, task: &Task, s: &FactSet, slot: usize) -> Op
     requires { IsCoreOf task.now states.now }
     ensures { IfSome result (λ value. value ≡ goal_value states.now.join task.now s.now) }
 {
-    let _ = task.init();
     match entry_at(&states.entries, &states.slots, slot) {
         None => None,
         Some(entry) => {
-            if !agrees(&states.core, s, &entry.state) {
+            if !agrees(&states.core, s, entry) {
                 return None;
             }
-            Some(value_of_facts(states.join, s, &entry.table, task.goal()))
+            Some(value_by(states.join, task, &states.core, s, entry))
         }
     }
 }
@@ -162,7 +110,7 @@ fn known_runs<'a>(
     match entry_at(&states.entries, &states.slots, slot) {
         None => None,
         Some(entry) => {
-            if !agrees(&states.core, s, &entry.state) {
+            if !agrees(&states.core, s, entry) {
                 return None;
             }
             Some(&entry.runs)
@@ -185,12 +133,8 @@ fn added_value(
     ensures core { IsCoreOf task.now states.new }
     ensures join { states.new.join ≡ states.old.join }
 {
-    let _ = task.init();
-    let state = core_part(alloc, &states.core, s)?;
-    let table = values(alloc, states.join, task, index, &state)?;
-    let runs = runnable(alloc, task, index, &state)?;
-    let value = value_of_facts(states.join, s, &table, task.goal());
-    let entry = Kept { state, table, runs };
+    let entry = entry_of(alloc, states.join, task, index, &states.core, s)?;
+    let value = value_by(states.join, task, &states.core, s, &entry);
     keep(&mut states.entries, &mut states.slots, slot, entry)?;
     Ok(value)
 }

@@ -6,6 +6,8 @@
 //! true of the task over many searches, also after want of memory.
 #![tactic(auto)]
 
+mod dearest;
+mod entry;
 mod kept;
 
 pub use kept::CoreStates;
