@@ -1,4 +1,0 @@
-pub mod FoundLemmas
-pub mod RowLemmas
-pub mod TellLemmas
-pub mod ThreatLemmas

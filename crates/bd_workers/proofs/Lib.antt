@@ -1,5 +1,0 @@
-mod DoneLemmas
-mod QuietLemmas
-mod StayLemmas
-mod StepLemmas
-mod TurnLemmas

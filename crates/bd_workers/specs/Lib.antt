@@ -1,4 +1,0 @@
-pub mod Dry
-pub mod Inner
-pub mod Round
-pub mod Turn

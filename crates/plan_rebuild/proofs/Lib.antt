@@ -1,7 +1,0 @@
-pub mod FallLemmas
-pub mod FlatLemmas
-pub mod GainLemmas
-pub mod GrowLemmas
-pub mod RunLemmas
-pub mod StepLemmas
-pub mod TakenLemmas

@@ -1,4 +1,0 @@
-pub mod Grown
-pub mod Measure
-pub mod Rebuilds
-pub mod Taking
