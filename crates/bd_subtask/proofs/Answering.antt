@@ -72,3 +72,7 @@ pub carried_below : (task : TaskView) (root : Node) (window : Window) → Stands
 carried_below task root window stands h =
     let there = stands.0 in
     all_among (length task.actions) there.kids (sym (below-Block (length task.actions) window.block there.kids there.order) ∙ node_below task root window (Block window.block there.kids there.order) there.found h) window.kids there.carried.equal
+
+-- the node of a level of the window's block is the one that is found
+pub node_at : (root : Node) (window : Window) (level : Level) → level.block ≡ window.block → find_in level.block root ≡ Some level.node.now → find_in window.block root ≡ Some level.node.now
+node_at root window level own is = ap (λ (b : ℕ). find_in b root) (sym own) ∙ is

@@ -344,8 +344,9 @@ module _ (task : TaskView) (root n : Node) (own : ℕ) (kids : List Node) (order
   block_distinct = ap (λ (z : Node). are_distinct (ids_of z)) (sym is) ∙ distinct
 
   -- what is kept of the block is its level
-  pub level_is : is_root root ≡ true → IsRising out → (level : Level) → level.block ≡ own → (parts : List Child) → parts ≡ map (child_of task.actions) kids → Keeps parts order level → level.certain ≡ sure → level.mentioned ≡ plus out task.goal → IsLevel task root level
-  level_is rooted up level same parts made keeps c m = record {
+  pub level_is : is_root root ≡ true → IsRising out → (level : Level) → level.block ≡ own → level.node.now ≡ n → (parts : List Child) → parts ≡ map (child_of task.actions) kids → Keeps parts order level → level.certain ≡ sure → level.mentioned ≡ plus out task.goal → IsLevel task root level
+  level_is rooted up level same at parts made keeps c m = record {
+    node = ap (λ (b : ℕ). find_in b root) same ∙ own_found task root own kids order sure out block_leads block_distinct ∙ ap Some (sym (at ∙ is));
     kept = λ ks o found.
         let here : Some (Block own kids order) ≡ Some (Block own ks o) = sym (own_found task root own kids order sure out block_leads block_distinct) ∙ ap (λ (b : ℕ). find_in b root) (sym same) ∙ found ∙ ap (λ (b : ℕ). Some (Block b ks o)) same in
         let layer : Node-F.Block own kids order ≡ Node-F.Block own ks o = sym (outs-Block own kids order) ∙ ap out-Node (some_same (Block own kids order) (Block own ks o) here) ∙ outs-Block own ks o in

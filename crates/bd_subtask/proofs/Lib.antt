@@ -24,3 +24,5 @@ pub mod PartLemmas
 pub mod Few
 pub mod Fitting
 pub mod SetTests
+pub mod Alike
+pub mod ToldLemmas

@@ -2,18 +2,14 @@
 use Rattle.std.proofs.Common.{◌≡◌, ℕ, Bool, true, false, cond, not, ◌&&◌, ◌||◌, eqb, List, [], ◌∷◌, filter, map, refl, sym, ap, ◌∙◌, inl, inr, ◌⊎◌}
 use Rattle.std.specs.List.{list_any, list_all}
 use Rattle.std.proofs.lemmas.Bool.{and_parts, or_left, or_right}
-use Rattle.bd_base.specs.Facts.{IsRising, has, plus}
+use Rattle.bd_base.specs.Facts.{has, plus}
 use Rattle.bd_base.specs.Pairs.{is_before}
-use Rattle.bd_base.proofs.FactLemmas.{has-plus, rising_same, rising-plus}
-use Rattle.bd_links.specs.declared.parts.Effects.{Effects}
-use Rattle.bd_links.specs.Effects.{Kid, Order, links, is_linked, is_needed, gives, is_given, is_deleted, all_facts, block_effects}
+use Rattle.bd_base.proofs.FactLemmas.{has-plus}
+use Rattle.bd_links.specs.Effects.{Kid, Order, links, is_linked, is_needed, gives, is_given, is_deleted}
 use Rattle.bd_links.specs.Rows.{holders}
-use Rattle.bd_links.proofs.Members.{In, here, there, any_some, some_any, has-filter, has-all_facts}
+use Rattle.bd_links.proofs.Members.{In, here, there, any_some, some_any}
 use Rattle.bd_links.proofs.RowLemmas.{any_same, all_same, any-holders, all-holders}
-use Rattle.bd_links.proofs.SetLemmas.{rising-filter, rising-all_facts}
-use Rattle.bd_subtask.specs.declared.fact_rows.FactRow.{FactRow}
-use Rattle.bd_subtask.specs.Level.{with_touched, row_of, rows_of, is_marked, part_of, yields, outlasts, part_gives, part_deletes, steps_aside, links_part, lacks, part_needs, facts_where}
-use Rattle.bd_subtask.proofs.Lists.{filter_in}
+use Rattle.bd_subtask.specs.Level.{with_touched, row_of, is_marked, part_of, yields, outlasts, part_gives, part_deletes, steps_aside, links_part, lacks, part_needs}
 
 -- ---- tests of the elements that pass another test
 
@@ -81,7 +77,7 @@ and_swapped true false = refl
 and_swapped false true = refl
 and_swapped false false = refl
 
-or_false : (b : Bool) → (b || false) ≡ b
+pub or_false : (b : Bool) → (b || false) ≡ b
 or_false true = refl
 or_false false = refl
 
@@ -138,19 +134,7 @@ module _ (order : Order) (marks : List Bool) (kids : List Kid) (p : ℕ) where
       ∙ sym (any_part marked (λ (d : Kid). has d.1.effects.del p) kids))
       ∙ ap (λ z. list_any (λ (d : Kid). has d.1.effects.del p) part && not z) gives_is
 
--- ---- the facts of the rows
-
-facts_of_rows : (t : FactRow → Bool) (kids : List Kid) (ps : List ℕ) → map (λ (r : FactRow). r.fact) (filter t (map (row_of kids) ps)) ≡ filter (λ p. t (row_of kids p)) ps
-facts_of_rows t kids [] = refl
-facts_of_rows t kids (p ∷ ps) = one (t (row_of kids p)) (facts_of_rows t kids ps)
-  where
-    one : (b : Bool) → map (λ (r : FactRow). r.fact) (filter t (map (row_of kids) ps)) ≡ filter (λ p. t (row_of kids p)) ps → map (λ (r : FactRow). r.fact) (cond b (row_of kids p ∷ filter t (map (row_of kids) ps)) (filter t (map (row_of kids) ps))) ≡ cond b (p ∷ filter (λ p. t (row_of kids p)) ps) (filter (λ p. t (row_of kids p)) ps)
-    one true e = ap (λ z. p ∷ z) e
-    one false e = e
-
-rising-touched : (s : List ℕ) (kids : List Kid) → IsRising s → IsRising (with_touched s kids)
-rising-touched s [] r = r
-rising-touched s (k ∷ kids) r = rising-touched (plus (plus (plus s k.1.effects.need) k.1.effects.add) k.1.effects.del) kids (rising-plus _ k.1.effects.del (rising-plus _ k.1.effects.add (rising-plus s k.1.effects.need r)))
+-- ---- the facts that kids touch
 
 touched_keeps : (s : List ℕ) (kids : List Kid) (q : ℕ) → has s q ≡ true → has (with_touched s kids) q ≡ true
 touched_keeps s [] q e = e
@@ -162,7 +146,7 @@ touched_keeps s (k ∷ kids) q e =
     (has-plus (plus (plus s n) a) d q ∙ or_right (has d q) _ (has-plus (plus s n) a q ∙ or_right (has a q) _ (has-plus s n q ∙ or_right (has n q) (has s q) e)))
 
 module _ (q : ℕ) where
-  abbrev Touches : Kid → Type 0
+  abbrev pub Touches : Kid → Type 0
   Touches k = (has k.1.effects.need q ≡ true) ⊎ ((has k.1.effects.add q ≡ true) ⊎ (has k.1.effects.del q ≡ true))
 
   touched_now : (s : List ℕ) (k : Kid) → Touches k → has (plus (plus (plus s k.1.effects.need) k.1.effects.add) k.1.effects.del) q ≡ true
@@ -176,60 +160,13 @@ module _ (q : ℕ) where
         | inr (inr e) ↦ or_left (has d q) _ e
       ]
 
-  touched_in : (s : List ℕ) (kids : List Kid) (k : Kid) → In k kids → Touches k → has (with_touched s kids) q ≡ true
+  pub touched_in : (s : List ℕ) (kids : List Kid) (k : Kid) → In k kids → Touches k → has (with_touched s kids) q ≡ true
   touched_in s [] k i t = elim i [ ]
   touched_in s (x ∷ kids) k here t = touched_keeps _ kids q (touched_now s x t)
   touched_in s (x ∷ kids) k (there i) t = touched_in (plus (plus (plus s x.1.effects.need) x.1.effects.add) x.1.effects.del) kids k i t
 
--- a set of the facts that pass a test is told by the rows' test
-module _ (marks : List Bool) (kids : List Kid) (f : Effects → List ℕ) (touch : (k : Kid) (q : ℕ) → has (f k.1.effects) q ≡ true → Touches q k) (t : FactRow → Bool) (u : ℕ → Bool) (same : (p : ℕ) → t (row_of kids p) ≡ u p)
-    (some : (q : ℕ) → u q ≡ true → list_any (λ (k : Kid). has (f k.1.effects) q) (part_of marks kids) ≡ true) where
-  abbrev chosen : List Kid
-  chosen = part_of marks kids
-
-  abbrev picked : List ℕ
-  picked = facts_where t (rows_of kids)
-
-  has_picked : (q : ℕ) → has (plus [] picked) q ≡ (u q && has (with_touched [] kids) q)
-  has_picked q =
-      has-plus [] picked q
-      ∙ or_false (has picked q)
-      ∙ ap (λ z. has z q) (facts_of_rows t kids (with_touched [] kids))
-      ∙ has-filter (λ p. t (row_of kids p)) (with_touched [] kids) q
-      ∙ ap (λ z. z && has (with_touched [] kids) q) (same q)
-
-  both_in : (q : ℕ) → u q ≡ true → (has (with_touched [] kids) q ≡ true) × (has (all_facts f chosen) q ≡ true)
-  both_in q e =
-      let k = any_some (λ (k : Kid). has (f k.1.effects) q) chosen (some q e) in
-      let i = filter_in (λ (k : Kid). is_marked marks k.0) kids k.0 k.1 in
-      (touched_in q [] kids k.0 i.0 (touch k.0 q k.2), has-all_facts f k.0 chosen q k.1 k.2)
-
-  pub set_same : plus [] picked ≡ filter u (all_facts f chosen)
-  set_same = rising_same (plus [] picked) (filter u (all_facts f chosen)) (rising-plus [] picked tt) (rising-filter u (all_facts f chosen) (rising-all_facts f chosen))
-      (λ q. has_picked q ∙ by q (u q) refl ∙ sym (has-filter u (all_facts f chosen) q))
-    where
-      by : (q : ℕ) (b : Bool) → u q ≡ b → (u q && has (with_touched [] kids) q) ≡ (u q && has (all_facts f chosen) q)
-      by q true e = ap (λ z. u q && z) ((both_in q e).0 ∙ sym (both_in q e).1)
-      by q false e = ap (λ z. z && has (with_touched [] kids) q) e ∙ sym (ap (λ z. z && has (all_facts f chosen) q) e)
-
 -- a test that asks for more
-any_first : (t u : Kid → Bool) (kids : List Kid) → list_any (λ k. t k && u k) kids ≡ true → list_any t kids ≡ true
+pub any_first : (t u : Kid → Bool) (kids : List Kid) → list_any (λ k. t k && u k) kids ≡ true → list_any t kids ≡ true
 any_first t u kids e =
     let k = any_some (λ k. t k && u k) kids e in
     some_any t k.0 kids k.1 (and_parts (t k.0) (u k.0) k.2).0
-
-module _ (order : Order) (marks : List Bool) (kids : List Kid) where
-  abbrev some_kids : List Kid
-  some_kids = part_of marks kids
-
-  pub needs_same : plus [] (facts_where (part_needs order marks) (rows_of kids)) ≡ (block_effects order some_kids).need
-  needs_same = set_same marks kids (λ e. e.need) (λ k q e. inl e) (part_needs order marks) (is_needed order some_kids) (needs_is order marks kids)
-      (λ q e. any_first (λ (j : Kid). has j.1.effects.need q) (λ (j : Kid). not (is_linked order some_kids j.0 q)) some_kids e)
-
-  pub gives_same : plus [] (facts_where (part_gives order marks) (rows_of kids)) ≡ (block_effects order some_kids).add
-  gives_same = set_same marks kids (λ e. e.add) (λ k q e. inr (inl e)) (part_gives order marks) (is_given order some_kids) (gives_is order marks kids)
-      (λ q e. any_first (λ (i : Kid). has i.1.effects.add q) (λ (i : Kid). list_all (λ (d : Kid). eqb d.0 i.0 || not (has d.1.effects.del q) || is_before order d.0 i.0) some_kids) some_kids e)
-
-  pub deletes_same : plus [] (facts_where (part_deletes order marks) (rows_of kids)) ≡ (block_effects order some_kids).del
-  deletes_same = set_same marks kids (λ e. e.del) (λ k q e. inr (inr e)) (part_deletes order marks) (is_deleted order some_kids) (deletes_is order marks kids)
-      (λ q e. (and_parts (list_any (λ (d : Kid). has d.1.effects.del q) some_kids) (not (is_given order some_kids q)) e).0)

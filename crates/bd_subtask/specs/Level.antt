@@ -3,15 +3,14 @@
 use Rattle.std.specs.Prelude.{◌≡◌, ℕ, Bool, true, false, cond, not, ◌&&◌, ◌||◌, ◌==◌, List, [], ◌∷◌, map, filter, Option, Some, None}
 use Rattle.std.specs.List.{list_any, list_all, slice_get, enumerate_from}
 use Rattle.std.specs.Option.{option_map_or}
-use Rattle.bd_base.specs.Facts.{has, plus}
-use Rattle.bd_base.specs.Pairs.{is_before}
+use Rattle.bd_base.specs.Facts.{has, insert_fact, plus, remove_fact}
+use Rattle.bd_base.specs.Pairs.{after_of, is_before}
 use Rattle.bd_task.specs.declared.ground.Action.{Action}
 use Rattle.bd_task.specs.TaskView.{TaskView}
 use Rattle.bd_tree.specs.declared.node.Node.{Node, Block}
 use Rattle.bd_tree.specs.Tree.{find_in, id_of, ids_of}
 use Rattle.bd_merge.specs.declared.window.Lean.{Lean}
 use Rattle.bd_merge.specs.declared.window.Lean.TheVariants.{Early, Late}
-use Rattle.bd_merge.specs.declared.window.Window.{Window}
 use Rattle.bd_links.specs.Effects.{Kid, Order, block_effects}
 use Rattle.bd_links.specs.Rows.{holders}
 use Rattle.bd_links.specs.Sound.{child_of}
@@ -82,21 +81,67 @@ abbrev pub leans : Lean → Order → List ℕ → ℕ → Bool
 leans Early order members j = not (list_any (λ m. is_before order m j) members)
 leans Late order members j = list_any (λ m. is_before order j m) members
 
--- a kid is outside the window and in front of it
-abbrev pub stands_in_front : Window → Order → List ℕ → ℕ × Node → Bool
-stands_in_front window order members k = not (has (map id_of window.kids) (id_of k.1)) && leans window.lean order members k.0
+-- a node has one of these ids
+abbrev pub is_in : List ℕ → Node → Bool
+is_in ids k = has ids (id_of k)
 
--- a kid is outside the window and behind it
-abbrev pub stands_behind : Window → Order → List ℕ → ℕ × Node → Bool
-stands_behind window order members k = not (has (map id_of window.kids) (id_of k.1)) && not (leans window.lean order members k.0)
+-- a kid, marked where the window carries it, is outside the window and in front of it
+abbrev pub stands_in_front : Lean → Order → List ℕ → ℕ × Bool → Bool
+stands_in_front lean order members k = not k.1 && leans lean order members k.0
 
--- the facts of the rows that pass a test
-abbrev pub facts_where : (FactRow → Bool) → List FactRow → List ℕ
-facts_where t rows = map (λ r. r.fact) (filter t rows)
+-- a kid, marked where the window carries it, is outside the window and behind it
+abbrev pub stands_behind : Lean → Order → List ℕ → ℕ × Bool → Bool
+stands_behind lean order members k = not k.1 && not (leans lean order members k.0)
+
+-- a set with the positions that some of the members is before
+abbrev pub reach_from : Order → List ℕ → List ℕ → List ℕ
+reach_from order s [] = s
+reach_from order s (m ∷ ms) = reach_from order (plus s (after_of order m)) ms
+
+-- what is asked of the positions after members, by the lean
+abbrev pub reach_of : Lean → Order → List ℕ → List ℕ
+reach_of Early order members = reach_from order [] members
+reach_of Late order members = []
+
+-- a kid needs, gives or deletes a fact
+abbrev pub touches : Child → ℕ → Bool
+touches c p = has c.effects.need p || has c.effects.add p || has c.effects.del p
+
+-- the places of the rows whose facts a kid touches
+abbrev pub touched_rows : List FactRow → Child → List ℕ
+touched_rows rows c = map (λ k. k.0) (filter (λ k. touches c k.1.fact) (enumerate_from 0 rows))
+
+-- a mark is the rarer one, where most kids are marked or aren't
+abbrev pub is_rare : Bool → Bool → Bool
+is_rare most mark = cond most (not mark) mark
+
+-- a set with those of the numbered sets whose marks are rare
+abbrev pub with_rare : List Bool → Bool → List ℕ → List (ℕ × List ℕ) → List ℕ
+with_rare marks most s [] = s
+with_rare marks most s (k ∷ ks) = with_rare marks most (cond (is_rare most (is_marked marks k.0)) (plus s k.1) s) ks
+
+-- what is told of facts that no rare kid touches
+abbrev pub start_of : Bool → List ℕ → List ℕ
+start_of most whole = cond most whole []
+
+-- a set with a fact where it holds, and else without it
+abbrev pub settled : ℕ → Bool → List ℕ → List ℕ
+settled p holds s = cond holds (insert_fact p s) (remove_fact p s)
+
+-- a set in which the fact of a row is settled by a test
+abbrev pub settled_by : (FactRow → Bool) → Option FactRow → List ℕ → List ℕ
+settled_by t None s = s
+settled_by t (Some row) s = settled row.fact (t row) s
+
+-- a set in which the facts of the rows at some places are settled by a test
+abbrev pub settle_all : (FactRow → Bool) → List FactRow → List ℕ → List ℕ → List ℕ
+settle_all t rows s [] = s
+settle_all t rows s (r ∷ rs) = settle_all t rows (settled_by t (slice_get rows r) s) rs
 
 -- what is kept of a block whose kids have these effects
 pub record Keeps (parts : List Child) (order : Order) (level : Level) : Type 0 where
   pub rows : level.rows.items ≡ rows_of (enumerate_from 0 parts)
+  pub touched : level.touched.items ≡ map (λ k. plus [] (touched_rows level.rows.items k)) parts
   pub whole : level.whole ≡ block_effects order (enumerate_from 0 parts)
 
 -- what is kept of a block with these kids and this order
@@ -105,6 +150,7 @@ IsKept task kids order level = Keeps (map (child_of task.actions) kids) order le
 
 -- what is kept of a block of the tree, what is certain there, and what is mentioned outside it
 pub record IsLevel (task : TaskView) (root : Node) (level : Level) : Type 0 where
+  pub node : find_in level.block root ≡ Some level.node.now
   pub kept : (kids : List Node) (order : Order) → find_in level.block root ≡ Some (Block level.block kids order) → IsKept task kids order level
   pub certain : level.certain ≡ or_nothing (certain_in task.actions level.block root task.init)
   pub mentioned : level.mentioned ≡ mentioned task root level.block
@@ -128,7 +174,11 @@ pub record LeadsTo (task : TaskView) (root node : Node) (sure out : List ℕ) (b
 abbrev pub Leads : TaskView → Node → Node → List ℕ → List ℕ → Type 0
 Leads task root node sure out = (b : ℕ) → has (ids_of node) b ≡ true → LeadsTo task root node sure out b
 
+-- a set with all of the numbered sets but the one at a position
+abbrev pub with_others : ℕ → List ℕ → List (ℕ × List ℕ) → List ℕ
+with_others i s [] = s
+with_others i s (k ∷ ks) = with_others i (cond (k.0 == i) s (plus s k.1)) ks
+
 -- a set with the preconditions in all kids but the one at a position
 abbrev pub beside_from : List Action → ℕ → ℕ → List ℕ → List (ℕ × Node) → List ℕ
-beside_from actions own i s [] = s
-beside_from actions own i s (k ∷ ks) = beside_from actions own i (cond (k.0 == i) s (plus s (outside_of actions own k.1))) ks
+beside_from actions own i s ks = with_others i s (map (λ k. (k.0, outside_of actions own k.1)) ks)

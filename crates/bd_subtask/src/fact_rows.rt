@@ -1,11 +1,11 @@
 // What the kids of a block do to each fact.
-ghost use Rattle.std.specs.Prelude.{◌≡◌, [], IfOk};
+ghost use Rattle.std.specs.Prelude.{◌≡◌, ◌||◌, [], map, IfOk};
 ghost use Rattle.std.specs.List.{enumerate_from};
-ghost use Rattle.bd_base.specs.Facts.{has};
+ghost use Rattle.bd_base.specs.Facts.{has, plus};
 ghost use Rattle.bd_links.specs.Rows.{Tells};
-ghost use Rattle.bd_subtask.specs.Level.{needers, row_of, rows_of, with_touched};
+ghost use Rattle.bd_subtask.specs.Level.{needers, row_of, rows_of, touched_rows, touches, with_touched};
 
-use bd_base::{FactId, FactSet, FromItems, Items, NoMemory};
+use bd_base::{FactId, FactSet, FromItems, Items, NoMemory, OwnedRow};
 use bd_links::{Child, Touches, deleters, givers, touches_of};
 use std::alloc::Global;
 
@@ -84,4 +84,50 @@ pub fn rows_of(alloc: Global, kids: &[Child<'_>]) -> Result<Vec<FactRow>, NoMemo
         rows.push(row_of(alloc, kids, &touches, p)?)?;
     }
     Ok(rows)
+}
+
+fn touches(kid: &Child<'_>, p: FactId) -> bool
+    ensures { result ≡ touches kid.now p }
+{
+    kid.need().has(p) || kid.add().has(p) || kid.del().has(p)
+}
+
+// The place as the rows of places have it.
+fn place(at: usize) -> Result<u32, NoMemory>
+    ensures { IfOk result (λ n. n ≡ at) }
+{
+    match u32::try_from(at) {
+        Ok(n) => Ok(n),
+        Err(_) => Err(NoMemory),
+    }
+}
+
+// The places of the rows whose facts the kid touches.
+fn touched_rows(alloc: Global, rows: &[FactRow], kid: &Child<'_>) -> Result<OwnedRow, NoMemory>
+    ensures { IfOk result (λ r. r ≡ plus [] (touched_rows rows.now kid.now)) }
+{
+    let mut places = OwnedRow::new(alloc);
+    let mut at = 0;
+    for row in rows {
+        if touches(kid, row.fact) {
+            places.put(place(at)?)?;
+        }
+        at += 1;
+    }
+    Ok(places)
+}
+
+/// For each kid, the places of the rows whose facts it touches.
+pub fn touched_of(
+    alloc: Global,
+    rows: &[FactRow],
+    kids: &[Child<'_>],
+) -> Result<Vec<OwnedRow>, NoMemory>
+    ensures { IfOk result (λ v. v.items ≡ map (λ k. plus [] (touched_rows rows.now k)) kids.now) }
+{
+    let mut touched = Vec::with_capacity(alloc, kids.len())?;
+    for kid in kids {
+        touched.push(touched_rows(alloc, rows, kid)?)?;
+    }
+    Ok(touched)
 }

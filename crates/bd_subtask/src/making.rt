@@ -13,8 +13,8 @@ ghost use Rattle.bd_subtask.specs.Level.{IsKept, IsLevel};
 
 use crate::certain::{certain_in, children, outside_of};
 use crate::level::{Level, level_of};
-use crate::marking::{member_places, sides};
-use crate::part::{all_deletes, all_gives, all_needs};
+use crate::marking::{carried, marked_places, sides};
+use crate::part::{all_deletes, all_gives, all_needs, part_by};
 use crate::parts::{Around, SubTask};
 use bd_base::{FactSet, NoMemory, NodeId, PairList};
 use bd_links::node_cost;
@@ -168,21 +168,27 @@ fn around(
     window: &Window,
     kids: &[Node],
     order: &PairList,
-    level: &Level,
+    level: &Level<'_>,
 ) -> Result<Around, NoMemory>
     ensures { (task : TaskView) → IsKept task kids.now order.now level.now → IfOk result (λ a. a ≡ around task window.now kids.now order.now) }
 {
-    let members = member_places(alloc, window, kids)?;
-    let sides = sides(alloc, window, kids, order, members.as_slice())?;
+    let carried = carried(alloc, window, kids)?;
+    let inside = carried.as_slice();
+    let members = marked_places(alloc, inside)?;
+    let sides = sides(alloc, window.lean, order, inside, members.as_slice())?;
     let rows = level.rows.as_slice();
+    let touched = level.touched.as_slice();
+    let whole = &level.whole;
     let in_front = sides.front.as_slice();
-    let front_gives = all_gives(alloc, order, in_front, rows)?;
-    let front_deletes = all_deletes(alloc, order, in_front, rows)?;
+    let front = part_by(alloc, in_front, touched)?;
+    let front_gives = all_gives(alloc, order, in_front, &front, &whole.add, rows)?;
+    let front_deletes = all_deletes(alloc, order, in_front, &front, &whole.del, rows)?;
     let behind = sides.back.as_slice();
-    let back_needs = all_needs(alloc, order, behind, rows)?;
-    let back_gives = all_gives(alloc, order, behind, rows)?;
-    let gives = level.whole.add.try_copy(alloc)?;
-    let deletes = level.whole.del.try_copy(alloc)?;
+    let back = part_by(alloc, behind, touched)?;
+    let back_needs = all_needs(alloc, order, behind, &back, &whole.need, rows)?;
+    let back_gives = all_gives(alloc, order, behind, &back, &whole.add, rows)?;
+    let gives = whole.add.try_copy(alloc)?;
+    let deletes = whole.del.try_copy(alloc)?;
     Ok(Around {
         is_root: window.block.0 == 0,
         front_gives,
@@ -201,7 +207,7 @@ pub fn pose(
     window: &Window,
     kids: &[Node],
     order: &PairList,
-    level: &Level,
+    level: &Level<'_>,
 ) -> Result<SubTask, NoMemory>
     requires kept { IsKept task.now kids.now order.now level.now }
     requires below { IsTrue (list_all (λ b. b) (map (are_below (length task.now.actions)) window.now.kids)) }
@@ -220,7 +226,7 @@ pub fn pose_in(
     task: &Task,
     tree: &Tree,
     window: &Window,
-    level: &Level,
+    level: &Level<'_>,
 ) -> Result<SubTask, NoMemory>
     requires stands { Stands tree.now window.now Found.At }
     requires below { IsTrue (are_below (length task.now.actions) tree.now) }
@@ -229,14 +235,12 @@ pub fn pose_in(
     requires own { level.now.block ≡ window.now.block }
     ensures { IfOk result (λ s. s ≡ subtask_of task.now tree.now window.now) }
 {
-    match tree.find(window.block) {
-        None => Ok(nothing()),
-        Some(node) => match node {
-            Node::Step { .. } => Ok(nothing()),
-            Node::Block { kids, order, .. } => {
-                pose(alloc, task, window, kids.as_slice(), order, level)
-            }
-        },
+    let _root = tree.root();
+    match level.node {
+        Node::Step { .. } => Ok(nothing()),
+        Node::Block { kids, order, .. } => {
+            pose(alloc, task, window, kids.as_slice(), order, level)
+        }
     }
 }
 
@@ -256,7 +260,7 @@ fn subtask_at(alloc: Global, task: &Task, tree: &Tree, window: &Window) -> Resul
             Node::Step { .. } => Ok(nothing()),
             Node::Block { kids, order, .. } => {
                 let parts = children(alloc, task, kids.as_slice())?;
-                let level = level_of(alloc, window.block, &parts, order, certain, facts)?;
+                let level = level_of(alloc, window.block, node, &parts, order, certain, facts)?;
                 pose(alloc, task, window, kids.as_slice(), order, &level)
             }
         },

@@ -1,12 +1,11 @@
 // What some kids of a block need, give and delete, read as a block with the old order, by the rows of its facts.
-ghost use Rattle.std.specs.Prelude.{◌≡◌, ◌&&◌, ◌||◌, ◌==◌, [], not, IfOk};
-ghost use Rattle.std.specs.List.{list_all, list_any};
-ghost use Rattle.bd_base.specs.Facts.{plus};
+ghost use Rattle.std.specs.Prelude.{◌≡◌, ◌&&◌, ◌||◌, ◌==◌, [], not, IfOk, OnOk};
+ghost use Rattle.std.specs.List.{enumerate_from, list_all, list_any};
 ghost use Rattle.bd_base.specs.Pairs.{is_before};
-ghost use Rattle.bd_subtask.specs.Level.{facts_where, is_marked, lacks, links_part, outlasts, part_deletes, part_gives, part_needs, steps_aside, yields};
+ghost use Rattle.bd_subtask.specs.Level.{is_marked, is_rare, lacks, links_part, outlasts, part_deletes, part_gives, part_needs, settle_all, settled, start_of, steps_aside, with_rare, yields};
 
 use crate::fact_rows::FactRow;
-use bd_base::{FactSet, NoMemory, PairList};
+use bd_base::{FactId, FactSet, NoMemory, OwnedRow, PairList};
 use bd_tree::comes_before;
 use std::alloc::Global;
 
@@ -111,55 +110,144 @@ fn needs(order: &PairList, marks: &[bool], row: &FactRow) -> bool
         .any(|j| lacks(order, marks, row, *j))
 }
 
-/// The facts that the marked kids, read as a block, need.
+/// The marked kids as a part of their block: whether most kids are marked, and the places of the rows that a kid touches
+/// whose mark is the rarer one.
+#[derive(Drop)]
+pub struct Part {
+    pub most: bool,
+    pub changed: OwnedRow,
+}
+
+// Whether more than half of the kids are marked.
+fn are_most(marks: &[bool]) -> bool {
+    let mut count: usize = 0;
+    for mark in marks {
+        if *mark {
+            count = count.saturating_add(1);
+        }
+    }
+    count > marks.len() / 2
+}
+
+fn is_rare(most: bool, mark: bool) -> bool
+    ensures { result ≡ is_rare most mark }
+{
+    if most { !mark } else { mark }
+}
+
+// The places of the rows that the kids touch whose marks are rare.
+fn with_rare(
+    alloc: Global,
+    marks: &[bool],
+    most: bool,
+    touched: &[OwnedRow],
+) -> Result<OwnedRow, NoMemory>
+    ensures { IfOk result (λ r. r ≡ with_rare marks.now most [] (enumerate_from 0 touched.now)) }
+{
+    let mut changed = OwnedRow::new(alloc);
+    let mut at = 0;
+    for row in touched {
+        if is_rare(most, is_marked(marks, at)) {
+            changed.join(&row.row())?;
+        }
+        at += 1;
+    }
+    Ok(changed)
+}
+
+/// The marked kids as a part of the block whose kids touch these rows.
+pub fn part_by(alloc: Global, marks: &[bool], touched: &[OwnedRow]) -> Result<Part, NoMemory>
+    ensures { IfOk result (λ p. p.changed ≡ with_rare marks.now p.most [] (enumerate_from 0 touched.now)) }
+{
+    let most = are_most(marks);
+    let changed = with_rare(alloc, marks, most, touched)?;
+    Ok(Part { most, changed })
+}
+
+// What is told of the facts of rows that no rare kid touches: what holds for the whole block, where most kids are marked.
+fn start(alloc: Global, most: bool, whole: &FactSet) -> Result<FactSet, NoMemory>
+    ensures { IfOk result (λ s. s ≡ start_of most whole.now) }
+{
+    if most {
+        whole.try_copy(alloc)
+    } else {
+        Ok(FactSet::new())
+    }
+}
+
+// Puts the fact in where it holds, and else takes it out.
+fn settle(alloc: Global, facts: &mut FactSet, p: FactId, holds: bool) -> Result<(), NoMemory>
+    ensures { OnOk result (facts.new ≡ settled p holds facts.old) }
+{
+    if holds {
+        facts.insert(alloc, p)?;
+    } else {
+        facts.remove(p);
+    }
+    Ok(())
+}
+
+/// The facts that the marked kids, read as a block, need, by those that all kids need.
 pub fn all_needs(
     alloc: Global,
     order: &PairList,
     marks: &[bool],
+    part: &Part,
+    whole: &FactSet,
     rows: &[FactRow],
 ) -> Result<FactSet, NoMemory>
-    ensures { IfOk result (λ s. s ≡ plus [] (facts_where (part_needs order.now marks.now) rows.now)) }
+    ensures { IfOk result (λ s. s ≡ settle_all (part_needs order.now marks.now) rows.now (start_of part.now.most whole.now) part.now.changed) }
 {
-    let mut facts = FactSet::new();
-    for row in rows {
-        if needs(order, marks, row) {
-            facts.insert(alloc, row.fact)?;
+    let mut facts = start(alloc, part.most, whole)?;
+    let changed = part.changed.row();
+    for r in changed.iter() {
+        match rows.get(r as usize) {
+            Some(row) => settle(alloc, &mut facts, row.fact, needs(order, marks, row))?,
+            None => {}
         }
     }
     Ok(facts)
 }
 
-/// The facts that the marked kids, read as a block, give.
+/// The facts that the marked kids, read as a block, give, by those that all kids give.
 pub fn all_gives(
     alloc: Global,
     order: &PairList,
     marks: &[bool],
+    part: &Part,
+    whole: &FactSet,
     rows: &[FactRow],
 ) -> Result<FactSet, NoMemory>
-    ensures { IfOk result (λ s. s ≡ plus [] (facts_where (part_gives order.now marks.now) rows.now)) }
+    ensures { IfOk result (λ s. s ≡ settle_all (part_gives order.now marks.now) rows.now (start_of part.now.most whole.now) part.now.changed) }
 {
-    let mut facts = FactSet::new();
-    for row in rows {
-        if gives(order, marks, row) {
-            facts.insert(alloc, row.fact)?;
+    let mut facts = start(alloc, part.most, whole)?;
+    let changed = part.changed.row();
+    for r in changed.iter() {
+        match rows.get(r as usize) {
+            Some(row) => settle(alloc, &mut facts, row.fact, gives(order, marks, row))?,
+            None => {}
         }
     }
     Ok(facts)
 }
 
-/// The facts that the marked kids, read as a block, delete.
+/// The facts that the marked kids, read as a block, delete, by those that all kids delete.
 pub fn all_deletes(
     alloc: Global,
     order: &PairList,
     marks: &[bool],
+    part: &Part,
+    whole: &FactSet,
     rows: &[FactRow],
 ) -> Result<FactSet, NoMemory>
-    ensures { IfOk result (λ s. s ≡ plus [] (facts_where (part_deletes order.now marks.now) rows.now)) }
+    ensures { IfOk result (λ s. s ≡ settle_all (part_deletes order.now marks.now) rows.now (start_of part.now.most whole.now) part.now.changed) }
 {
-    let mut facts = FactSet::new();
-    for row in rows {
-        if deletes(order, marks, row) {
-            facts.insert(alloc, row.fact)?;
+    let mut facts = start(alloc, part.most, whole)?;
+    let changed = part.changed.row();
+    for r in changed.iter() {
+        match rows.get(r as usize) {
+            Some(row) => settle(alloc, &mut facts, row.fact, deletes(order, marks, row))?,
+            None => {}
         }
     }
     Ok(facts)

@@ -8,8 +8,8 @@ ghost use Rattle.bd_tree.specs.WellFormed.{are_distinct};
 ghost use Rattle.bd_links.specs.Sound.{are_below};
 ghost use Rattle.bd_merge.specs.Stands.{Stands};
 ghost use Rattle.bd_subtask.specs.Law.{Fits, IsOfUse};
-ghost use Rattle.bd_subtask.specs.Level.{AreLevels, FindsLevel, Leads, beside_from};
-ghost use Rattle.bd_subtask.specs.Subtask.{subtask_of};
+ghost use Rattle.bd_subtask.specs.Level.{AreLevels, FindsLevel, Leads, with_others};
+ghost use Rattle.bd_subtask.specs.Subtask.{outside_of, subtask_of};
 
 use crate::certain::{candidates, certain_at_kid, children, outside_of};
 use crate::level::{Level, level_of};
@@ -23,23 +23,32 @@ use bd_tree::{Node, Tree};
 use std::alloc::Global;
 use std::marker::Model;
 
-// A set with the preconditions in all kids of a block but the one at a position.
-fn beside(
+// The preconditions in each kid of a block.
+fn insides(alloc: Global, task: &Task, own: NodeId, kids: &[Node]) -> Result<Vec<FactSet>, NoMemory>
+    requires { IsTrue (list_all (λ b. b) (map (are_below (length task.now.actions)) kids.now)) }
+    ensures { IfOk result (λ v. v.items ≡ map (outside_of task.now.actions own) kids.now) }
+{
+    let mut sets = Vec::new(alloc);
+    for kid in kids {
+        sets.push(outside_of(alloc, task, own, kid)?)?;
+    }
+    Ok(sets)
+}
+
+// A set with all of the sets but the one at a position.
+fn with_others(
     alloc: Global,
-    task: &Task,
-    own: NodeId,
-    kids: &[Node],
+    sets: &[FactSet],
     at: usize,
     out: &FactSet,
 ) -> Result<FactSet, NoMemory>
-    requires { IsTrue (list_all (λ b. b) (map (are_below (length task.now.actions)) kids.now)) }
-    ensures { IfOk result (λ s. s ≡ beside_from task.now.actions own at out.now (enumerate_from 0 kids.now)) }
+    ensures { IfOk result (λ s. s ≡ with_others at out.now (enumerate_from 0 sets.now)) }
 {
     let mut facts = out.try_copy(alloc)?;
     let mut i = 0;
-    for kid in kids {
+    for set in sets {
         if i != at {
-            facts.join(alloc, &outside_of(alloc, task, own, kid)?)?;
+            facts.join(alloc, set)?;
         }
         i += 1;
     }
@@ -57,14 +66,14 @@ fn with_goal(alloc: Global, task: &Task, out: &FactSet) -> Result<FactSet, NoMem
 
 // Puts the levels of the blocks in a node of the tree, where some facts are certain at the node, and some are
 // preconditions of steps outside it.
-fn put_levels(
+fn put_levels<'t>(
     alloc: Global,
     task: &Task,
     tree: &Tree,
-    node: &Node,
+    node: &'t Node,
     sure: &FactSet,
     out: &FactSet,
-    levels: &mut Vec<Level>,
+    levels: &mut Vec<Level<'t>>,
 ) -> Result<(), NoMemory>
     requires below { IsTrue (are_below (length task.now.actions) node.now) }
     requires distinct { are_distinct (ids_of node.now) ≡ true }
@@ -80,14 +89,17 @@ fn put_levels(
             let parts = children(alloc, task, kids.as_slice())?;
             let certain = sure.try_copy(alloc)?;
             let mentioned = with_goal(alloc, task, out)?;
-            let level = level_of(alloc, *id, &parts, order, certain, mentioned)?;
+            let level = level_of(alloc, *id, node, &parts, order, certain, mentioned)?;
             levels.push(level)?;
             let touches = touches_of(alloc, &parts)?;
             let facts = candidates(alloc, &parts, sure)?;
+            let sons = kids.as_slice();
+            let others = insides(alloc, task, *id, sons)?;
+            let sets = others.as_slice();
             let mut j = 0;
             for kid in kids.as_slice() {
                 let inner = certain_at_kid(alloc, order, &touches, &parts, &facts, sure, j)?;
-                let around = beside(alloc, task, *id, kids.as_slice(), j, out)?;
+                let around = with_others(alloc, sets, j, out)?;
                 put_levels(alloc, task, tree, kid, &inner, &around, levels)?;
                 j += 1;
             }
@@ -96,16 +108,48 @@ fn put_levels(
     }
 }
 
-// The level of the block, if one is kept.
-fn find_level<'b>(levels: &'b [Level], block: NodeId) -> Option<&'b Level>
+// Where the level of a block stands.
+#[derive(Clone, Copy, PartialEq, Eq, PartialOrd, Ord)]
+struct Place {
+    block: NodeId,
+    at: usize,
+}
+
+// Where each level stands, by rising blocks.
+fn places_of(alloc: Global, levels: &[Level<'_>]) -> Result<Vec<Place>, NoMemory> {
+    let mut places = Vec::new(alloc);
+    for (at, level) in levels.iter().enumerate() {
+        places.push(Place {
+            block: level.block,
+            at,
+        })?;
+    }
+    places.sort()?;
+    Ok(places)
+}
+
+// The level of the block, if it is found.
+fn find_level<'b, 't>(
+    levels: &'b [Level<'t>],
+    places: &[Place],
+    block: NodeId,
+) -> Option<&'b Level<'t>>
     ensures { FindsLevel levels.now block (option_copied result) }
 {
-    for level in levels {
-        if level.block == block {
-            return Some(level);
+    let at = match places.binary_search_by_key(&block, |p| p.block) {
+        Ok(k) => places[k].at,
+        Err(_) => return None,
+    };
+    match levels.get(at) {
+        Some(level) => {
+            if level.block == block {
+                Some(level)
+            } else {
+                None
+            }
         }
+        None => None,
     }
-    None
 }
 
 /// What is kept of a tree, so that many subtasks of it are posed cheaply.
@@ -113,7 +157,8 @@ fn find_level<'b>(levels: &'b [Level], block: NodeId) -> Option<&'b Level>
 pub struct Posing<'a> {
     task: &'a Task,
     tree: &'a Tree,
-    levels: Vec<Level>,
+    levels: Vec<Level<'a>>,
+    places: Vec<Place>,
 }
 
 impl<'a> Model for Posing<'a> {
@@ -142,7 +187,13 @@ impl<'a> Posing<'a> {
         let out = FactSet::new();
         let mut levels = Vec::new(alloc);
         put_levels(alloc, task, tree, root, start, &out, &mut levels)?;
-        Ok(Posing { task, tree, levels })
+        let places = places_of(alloc, &levels)?;
+        Ok(Posing {
+            task,
+            tree,
+            levels,
+            places,
+        })
     }
 
     // The subtask, by the level of the window's block.
@@ -152,7 +203,7 @@ impl<'a> Posing<'a> {
         requires few { nodes_of self.now.root < 2 ^ 32 }
         ensures { IfOk result (λ s. s ≡ subtask_of self.now.task self.now.root window.now) }
     {
-        match find_level(&self.levels, window.block) {
+        match find_level(&self.levels, &self.places, window.block) {
             Some(level) => pose_in(alloc, self.task, self.tree, window, level),
             None => subtask(alloc, self.task, self.tree, window),
         }

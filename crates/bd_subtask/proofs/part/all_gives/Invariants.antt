@@ -1,7 +1,8 @@
-use Rattle.std.proofs.Common.{◌≡◌, [], drop}
-use Rattle.bd_base.specs.Facts.{plus}
-use Rattle.bd_subtask.specs.Level.{facts_where, part_gives}
+use Rattle.std.proofs.Common.{◌≡◌}
+use Rattle.bd_subtask.specs.Level.{part_gives, settle_all, start_of}
 use Rattle.bd_subtask.proofs.part.all_gives.Given as goal
 
-abbrev pub invariant-loop-row : goal.invariant-loop-row
-invariant-loop-row l = plus l.facts (facts_where (part_gives l.order l.marks) (drop l.row-index l.rows)) ≡ plus [] (facts_where (part_gives l.order l.marks) l.rows)
+abbrev pub invariant-loop-r : goal.invariant-loop-r
+invariant-loop-r l =
+    settle_all (part_gives l.order l.marks) l.rows l.facts l.r-iterator
+    ≡ settle_all (part_gives l.order l.marks) l.rows (start_of l.part.most l.whole) l.part.changed

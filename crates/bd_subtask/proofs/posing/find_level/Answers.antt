@@ -6,5 +6,7 @@ use Rattle.bd_subtask.proofs.posing.find_level.Goals as goal
 
 pub returns-then-eq : goal.returns-then-eq
 returns-then-eq c =
-    let e : eqb c.level-item.result.block c.args.block ≡ true = cc in
-    (eqb-true c.level-item.result.block c.args.block e, λ task root a. subst (IsLevel task root) (sym c.level-item.is) (level_at task root c.args.levels.now c.loop-level.level-index c.level-item.result c.loop-level-test.true a))
+    let level = c.in-Some.level.now in
+    let h = c.in-Some.ensures.lookup in
+    let e : eqb level.block c.args.block ≡ true = cc in
+    (eqb-true level.block c.args.block e, λ task root a. subst (IsLevel task root) (sym (h.3.1 level)) (level_at task root c.args.levels.now _ level h.3.0 a))
