@@ -1,0 +1,4 @@
+pub mod FoundLemmas
+pub mod RowLemmas
+pub mod TellLemmas
+pub mod ThreatLemmas

@@ -1,0 +1,12 @@
+use Rattle.bd_tight.proofs.ToldLemmas.{some_tried, none_tried}
+use Rattle.bd_walk.proofs.walk.gain_with.Goals as goal
+
+pub returns-in-Some : goal.returns-in-Some
+returns-in-Some c =
+    some_tried c.args.task.now c.args.tree.now c.args.span c.args.block c.args.left.now c.args.rights.now c.loop-right.right-index c.right-item.result c.as_slice.result.now c.loop-right-test.true c.right-item.is c.as_slice.ensures
+    c.in_ok-gain.field-0 c.in-Some.gain c.in_ok-gain.ensures c.in-Some.is c.loop-right.invariant
+
+pub loop-right-preserved : goal.loop-right-preserved
+loop-right-preserved c =
+    none_tried c.args.task.now c.args.tree.now c.args.span c.args.block c.args.left.now c.args.rights.now c.loop-right.right-index c.right-item.result c.as_slice.result.now c.loop-right-test.true c.right-item.is c.as_slice.ensures
+    c.in_ok-gain.field-0 c.in_ok-gain.ensures c.in-None.is c.loop-right.invariant
