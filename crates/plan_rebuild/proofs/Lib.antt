@@ -1,0 +1,7 @@
+pub mod FallLemmas
+pub mod FlatLemmas
+pub mod GainLemmas
+pub mod GrowLemmas
+pub mod RunLemmas
+pub mod StepLemmas
+pub mod TakenLemmas

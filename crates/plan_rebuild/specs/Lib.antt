@@ -1,0 +1,4 @@
+pub mod Grown
+pub mod Measure
+pub mod Rebuilds
+pub mod Taking
