@@ -1,0 +1,5 @@
+mod DoneLemmas
+mod QuietLemmas
+mod StayLemmas
+mod StepLemmas
+mod TurnLemmas

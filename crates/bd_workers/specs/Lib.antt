@@ -1,0 +1,4 @@
+pub mod Dry
+pub mod Inner
+pub mod Round
+pub mod Turn
