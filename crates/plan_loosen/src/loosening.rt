@@ -10,6 +10,7 @@ use crate::pairs::take_pairs;
 use crate::taking::{gain_of, take};
 use bd_base::{ActionId, NoMemory};
 use bd_task::Task;
+use bd_walk::Walk;
 use plan_core::Core;
 use std::alloc::Global;
 
@@ -21,8 +22,9 @@ fn tighten(alloc: Global, core: &mut Core, span: u32) -> Result<(), NoMemory>
     ensures gains { OnOk result (TakesGains core.new) }
     ensures tight { OnOk result (IsTight core.new.task core.new.tree span) }
 {
+    let mut walk = Walk::new();
     take_pairs(alloc, core)?;
-    while let Some(gain) = gain_of(alloc, core, span)? {
+    while let Some(gain) = gain_of(alloc, &mut walk, core, span)? {
         take(alloc, core, gain)?;
         take_pairs(alloc, core)?;
     }

@@ -8,18 +8,24 @@ ghost use Rattle.plan_core.specs.declared.offer.Offer.TheVariants.{Tighten};
 ghost use Rattle.plan_loosen.specs.Taking.{IsTakable, TakesGains, wants_memory};
 
 use bd_base::NoMemory;
-use bd_tight::{Gain, next_gain};
+use bd_tight::Gain;
+use bd_walk::Walk;
 use plan_core::{Core, Offer, Refusal};
 use std::alloc::Global;
 
-/// A gain of the core's tree, if it isn't tight at the span.
-pub(crate) fn gain_of(alloc: Global, core: &Core, span: u32) -> Result<Option<Gain>, NoMemory>
+/// A gain of the core's tree, if it isn't tight at the span. The walk goes on where it was.
+pub(crate) fn gain_of(
+    alloc: Global,
+    walk: &mut Walk,
+    core: &Core,
+    span: u32,
+) -> Result<Option<Gain>, NoMemory>
     requires { TakesGains core.now }
     ensures none { IfOk result (λ told. IfNone told (IsTight core.now.task core.now.tree span)) }
     ensures some { IfOk result (λ told. IfSome told (λ gain. IsTakable core.now gain)) }
 {
     core.keeps();
-    next_gain(alloc, core.task(), core.tree(), span)
+    walk.next(alloc, core.task(), core.tree(), span)
 }
 
 // Whether it is want of memory.
