@@ -1,5 +1,5 @@
 -- What is read of a parse: a word as it stands, and the number that a text in its range writes.
-use Rattle.std.proofs.Common.{◌≡◌, ◌∙◌, ◌≤◌, ◌<◌, ◌^◌, ap, sym, refl, ℕ, List, [], Option, Some, None, arith}
+use Rattle.std.proofs.Common.{◌≡◌, ◌∙◌, ◌≤◌, ◌<◌, ◌^◌, ap, subst, sym, refl, ℕ, List, [], Option, Some, None, arith}
 use Rattle.std.specs.Prelude.{option_map, unwrap_or, Result, Ok, Err}
 use Rattle.std.specs.Option.{option_map_or}
 use Rattle.std.specs.Borrow.{Bor}
@@ -11,6 +11,7 @@ use Rattle.clap.specs.declared.parser.matches.Found.{Found}
 use Rattle.clap.proofs.WalkLemmas.{first_value-rows, one_text-rows}
 use Rattle.command_words.specs.Asked.{number_at, number_in, word_at}
 use Rattle.command_words.specs.Built.{IsNumberAt}
+use Rattle.command_words.specs.Range.{IsFrom1To}
 
 pub word_told : (f : Found) (id : List ℕ) (o : Option (Bor (List ℕ))) → option_map (λ s. s.now) o ≡ first_value f id
     → unwrap_or (option_map (λ s. s.now) o) [] ≡ word_at id (rows_of f)
@@ -36,3 +37,12 @@ number_told E G m id most default r only few passes none some = go (one_text (fo
         ∙ ap (λ (x : Option (List ℕ)). option_map_or number_in x default) (sym e ∙ one_text-rows (found_of m) id)
     go (Some t) e = read_told E G most default t r only few (passes t e) (some t e)
         ∙ ap (λ (x : Option (List ℕ)). option_map_or number_in x default) (sym e ∙ one_text-rows (found_of m) id)
+
+-- the number that is read stands in its range
+pub number_ranged : (m : ArgMatches) (id : List ℕ) (most default : ℕ) → IsNumberAt m id most → IsFrom1To most default
+    → IsFrom1To most (number_at id default (rows_of (found_of m)))
+number_ranged m id most default passes own = go (one_text (found_of m) id) refl
+  where
+    go : (o : Option (List ℕ)) → one_text (found_of m) id ≡ o → IsFrom1To most (number_at id default (rows_of (found_of m)))
+    go None e = subst (λ (x : Option (List ℕ)). IsFrom1To most (option_map_or number_in x default)) (sym e ∙ one_text-rows (found_of m) id) own
+    go (Some t) e = subst (λ (x : Option (List ℕ)). IsFrom1To most (option_map_or number_in x default)) (sym e ∙ one_text-rows (found_of m) id) ((passes t e).2, (passes t e).3)

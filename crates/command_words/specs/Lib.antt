@@ -3,3 +3,4 @@ pub mod Apps
 pub mod Asked
 pub mod Behind
 pub mod Built
+pub mod Range

@@ -3,6 +3,7 @@ ghost use Rattle.clap.specs.Words.{app_of, found_of, is_simple_and_free, rows_of
 ghost use Rattle.command_words.specs.Asked.{Asks, names_at, names_of, number_at, numbers_at, rows_of, word_at};
 ghost use Rattle.command_words.specs.Behind.{AsksBench, AsksCheck, AsksDeorder, AsksImprove, AsksReplay};
 ghost use Rattle.command_words.specs.Built.{IsNumberAt};
+ghost use Rattle.command_words.specs.Range.{AreInRange, AreNumbersInRange, IsFrom1To};
 
 use crate::apps::{bench_command, check_command, deorder_command, improve_command, replay_command};
 use crate::request::{Numbers, Request, TextNames};
@@ -53,7 +54,9 @@ fn word<'a>(matches: &ArgMatches<'a>, id: &str) -> &'a str
 fn number(matches: &ArgMatches, id: &str, most: u64, default: u32) -> u32
     requires number { IsNumberAt matches.now id.now most }
     requires most { most ≤ 1_000_000 }
-    ensures { result ≡ number_at id.now default (rows_found (found_of matches.now)) }
+    requires default { IsFrom1To most default }
+    ensures number { result ≡ number_at id.now default (rows_found (found_of matches.now)) }
+    ensures range { IsFrom1To most result }
 {
     match matches.get_one::<u32>(id) {
         Some(n) => n,
@@ -79,7 +82,8 @@ fn numbers(matches: &ArgMatches) -> Numbers
     requires width { IsNumberAt matches.now (codes "width") 64 }
     requires span { IsNumberAt matches.now (codes "span") 64 }
     requires stop { IsNumberAt matches.now (codes "stop") 1_000_000 }
-    ensures { result ≡ numbers_at (rows_found (found_of matches.now)) }
+    ensures numbers { result ≡ numbers_at (rows_found (found_of matches.now)) }
+    ensures range { AreNumbersInRange result }
 {
     Numbers {
         workers: number(matches, "workers", 64, 1),
@@ -91,7 +95,8 @@ fn numbers(matches: &ArgMatches) -> Numbers
 }
 
 fn check_request<'a>(alloc: Global, rest: &'a [String]) -> Result<Option<Request<'a>>, NoMemory>
-    ensures { IfOk result (AsksCheck (map string_bytes rest.now)) }
+    ensures asked { IfOk result (AsksCheck (map string_bytes rest.now)) }
+    ensures ranges { IfOk result AreInRange }
 {
     match matches_of(check_command(alloc)?, rest)? {
         None => Ok(None),
@@ -102,7 +107,8 @@ fn check_request<'a>(alloc: Global, rest: &'a [String]) -> Result<Option<Request
 }
 
 fn deorder_request<'a>(alloc: Global, rest: &'a [String]) -> Result<Option<Request<'a>>, NoMemory>
-    ensures { IfOk result (AsksDeorder (map string_bytes rest.now)) }
+    ensures asked { IfOk result (AsksDeorder (map string_bytes rest.now)) }
+    ensures ranges { IfOk result AreInRange }
 {
     match matches_of(deorder_command(alloc)?, rest)? {
         None => Ok(None),
@@ -114,7 +120,8 @@ fn deorder_request<'a>(alloc: Global, rest: &'a [String]) -> Result<Option<Reque
 }
 
 fn improve_request<'a>(alloc: Global, rest: &'a [String]) -> Result<Option<Request<'a>>, NoMemory>
-    ensures { IfOk result (AsksImprove (map string_bytes rest.now)) }
+    ensures asked { IfOk result (AsksImprove (map string_bytes rest.now)) }
+    ensures ranges { IfOk result AreInRange }
 {
     match matches_of(improve_command(alloc)?, rest)? {
         None => Ok(None),
@@ -126,7 +133,8 @@ fn improve_request<'a>(alloc: Global, rest: &'a [String]) -> Result<Option<Reque
 }
 
 fn replay_request<'a>(alloc: Global, rest: &'a [String]) -> Result<Option<Request<'a>>, NoMemory>
-    ensures { IfOk result (AsksReplay (map string_bytes rest.now)) }
+    ensures asked { IfOk result (AsksReplay (map string_bytes rest.now)) }
+    ensures ranges { IfOk result AreInRange }
 {
     match matches_of(replay_command(alloc)?, rest)? {
         None => Ok(None),
@@ -137,7 +145,8 @@ fn replay_request<'a>(alloc: Global, rest: &'a [String]) -> Result<Option<Reques
 }
 
 fn bench_request<'a>(alloc: Global, rest: &'a [String]) -> Result<Option<Request<'a>>, NoMemory>
-    ensures { IfOk result (AsksBench (map string_bytes rest.now)) }
+    ensures asked { IfOk result (AsksBench (map string_bytes rest.now)) }
+    ensures ranges { IfOk result AreInRange }
 {
     match matches_of(bench_command(alloc)?, rest)? {
         None => Ok(None),
@@ -149,7 +158,9 @@ fn bench_request<'a>(alloc: Global, rest: &'a [String]) -> Result<Option<Request
 
 /// What the words ask for, if they are a command with its words.
 pub fn request_of<'a>(alloc: Global, words: &'a [String]) -> Result<Option<Request<'a>>, NoMemory>
-    ensures { IfOk result (Asks (map string_bytes words.now)) }
+    ensures asked { IfOk result (Asks (map string_bytes words.now)) }
+    // Each number stands in its range, whether the words have it or it is the default.
+    ensures ranges { IfOk result AreInRange }
 {
     let (first, rest) = match words.split_first() {
         None => return Ok(None),
