@@ -27,7 +27,7 @@ use Rattle.plan_core.specs.declared.judge.BeginErr.TheVariants.{Unsound}
 use Rattle.seq_check.specs.declared.judging.Broken.{Broken}
 use Rattle.seq_check.specs.declared.judging.Broken.TheVariants.{Step, Goal}
 use Rattle.seq_check.proofs.BreakLemmas.{unbroken_is}
-use Rattle.plan_loosen.specs.Taking.{IsOpened}
+use Rattle.plan_loosen.specs.Opened.{IsOpened}
 
 -- a flat tree counts as the chain of its list does
 module _ (list : List ℕ) (order : List (ℕ × ℕ)) where
@@ -83,7 +83,8 @@ module _ (task : TaskView) (list : List ℕ) (there : All (λ a. a < length task
     opened_is core same = subst (IsOpened task list) (sym same) record {
       opens = (refl, refl, refl);
       starts = is;
-      gains = record { stops = refl; tightenings = refl; fresh = refl; few = omega (arith, pairs_few) };
+      few = pairs_few;
+      nothing = refl;
     }
 
     -- the same of what the beginning of a core comes to

@@ -1,4 +1,2 @@
 pub mod FlatLemmas
-pub mod GainLemmas
-pub mod PairLemmas
-pub mod TakenLemmas
+pub mod OpenLemmas

@@ -1,2 +1,2 @@
 pub mod Loosened
-pub mod Taking
+pub mod Opened

@@ -5,7 +5,7 @@ ghost use Rattle.bd_deorder.specs.Deordered.{IsDeordered};
 ghost use Rattle.bd_links.specs.Sound.{IsSound};
 ghost use Rattle.plan_core.specs.Core.{opening};
 ghost use Rattle.plan_core.specs.Law.{MayBegin};
-ghost use Rattle.plan_loosen.specs.Taking.{IsOpened};
+ghost use Rattle.plan_loosen.specs.Opened.{IsOpened};
 
 use bd_base::{ActionId, NoMemory};
 use bd_deorder::deorder;
