@@ -13,13 +13,13 @@ use Rattle.task_inputs.specs.Reads.{Counts, IsToldAs}
 use Rattle.task_inputs.specs.Inputs.{outcome, LeadsTo, IsValidPlan}
 use Rattle.task_inputs.proofs.ValidLemmas.{valid_plans_law}
 use Rattle.task_inputs.proofs.Laws.{leads_outcome, faultless_outcome}
-use Rattle.bd_top.specs.declared.record.RunRecord.{RunRecord}
+use Rattle.run_texts.specs.declared.record.RunRecord.{RunRecord}
 use Rattle.bd_top.specs.declared.status.File.{File}
 use Rattle.bd_top.specs.declared.status.Status.{Status}
 use Rattle.bd_top.specs.declared.status.Status.TheVariants as status
 use Rattle.bd_top.specs.Prepared.{Names, NamesTexts, IsNamedRefusal, IsTextsRefusal, IsRefusal, TextsLead, Tells, file_by, name_by}
 use Rattle.bd_top.specs.Plans.{IsCheckedPlan}
-use Rattle.bd_top.specs.Taken.{Taken, HasFailed}
+use Rattle.run_texts.specs.Taken.{Taken, HasFailed}
 use Rattle.bd_top.specs.Words.{texts_named}
 use Rattle.command_words.specs.Asked.{Names as TextNames}
 use Rattle.bd_top.specs.Run.{Ends, HasWriteFault, IsExactCheck, AreNamedTexts, IsGoodPlan, BreaksFirst, IsFirstFault, IsFaultless, IsDoneOrNoMemory}

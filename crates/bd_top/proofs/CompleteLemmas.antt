@@ -12,7 +12,7 @@ use Rattle.script_text.specs.declared.script.Script.{Script}
 use Rattle.script_text.specs.Limits.{over_of}
 use Rattle.script_text.specs.Spells.{SpellsScript}
 use Rattle.script_text.proofs.SpellsLemmas.{one_spelled}
-use Rattle.bd_top.specs.declared.record.RunRecord.{RunRecord}
+use Rattle.run_texts.specs.declared.record.RunRecord.{RunRecord}
 use Rattle.bd_top.specs.declared.status.File.TheVariants as file
 use Rattle.bd_top.specs.declared.status.Status.{Status}
 use Rattle.bd_top.specs.declared.status.Status.TheVariants as status
@@ -20,7 +20,7 @@ use Rattle.task_inputs.specs.Reads.{Counts, WasRead, IsToldAs, IsUnread, IsLong}
 use Rattle.bd_top.specs.Prepared.{Names, NamesTexts, IsTextRefusal, IsTextsRefusal, IsNamedRefusal, IsRefusal, HasUnsoundStart, IsReadyText, start_of}
 use Rattle.bd_top.proofs.CommandLemmas.{one_command}
 use Rattle.bd_top.specs.Run.{Ends, HasWriteFault, IsGood, IsFaultless, IsDoneOrNoMemory}
-use Rattle.bd_top.specs.Taken.{Taken, HasFailed}
+use Rattle.run_texts.specs.Taken.{Taken, HasFailed}
 
 differs : {A : Type 0} (o : Option A) (a : A) → o ≡ None → o ≡ Some a → ⊥
 differs o a e h = cc

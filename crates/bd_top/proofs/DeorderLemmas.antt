@@ -10,16 +10,15 @@ use Rattle.task_inputs.specs.Inputs.{IsValidPlan}
 use Rattle.task_inputs.specs.Reads.{Counts}
 use Rattle.task_inputs.proofs.CallsLemmas.{from_list, in_task}
 use Rattle.task_inputs.proofs.Laws.{ready_texts}
-use Rattle.bd_top.specs.declared.record.RunRecord.{RunRecord}
-use Rattle.bd_top.specs.declared.replay.Stop.{Stop}
-use Rattle.bd_top.specs.declared.replay.Stop.TheVariants as stop
+use Rattle.run_texts.specs.declared.record.RunRecord.{RunRecord}
+use Rattle.run_texts.specs.declared.putting.Stop.{Stop}
+use Rattle.run_texts.specs.declared.putting.Stop.TheVariants as stop
 use Rattle.bd_top.specs.declared.status.Status.{Status}
 use Rattle.bd_top.specs.declared.status.Status.TheVariants as status
 use Rattle.bd_top.specs.Deorder.{IsDeorderRun, IsKnown, Loosens, TellsTree, told_tree}
 use Rattle.bd_top.specs.Prepared.{LeadToTask, NamesTexts}
-use Rattle.bd_top.specs.Replay.{Puts}
+use Rattle.run_texts.specs.Taken.{Puts, Taken, IsSilent}
 use Rattle.bd_top.specs.Run.{Ends, status_by}
-use Rattle.bd_top.specs.Taken.{Taken, IsSilent}
 use Rattle.bd_top.specs.Words.{span_asked}
 
 abbrev passed : Option (Limit × ℕ)

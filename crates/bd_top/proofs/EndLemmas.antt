@@ -12,19 +12,19 @@ use Rattle.plan_core.specs.Law.{OpensOn, IsLawful}
 use Rattle.plan_core.specs.declared.offer.Offer.{Offer}
 use Rattle.plan_core.specs.declared.refusal.Refusal.{Refusal}
 use Rattle.script_text.specs.declared.script.Script.{Script}
-use Rattle.bd_top.specs.declared.record.End.TheVariants as end
-use Rattle.bd_top.specs.declared.record.RunRecord.{RunRecord}
-use Rattle.bd_top.specs.declared.replay.Stop.{Stop}
-use Rattle.bd_top.specs.declared.replay.Stop.TheVariants as stop
+use Rattle.bd_pieces.specs.declared.pieces.End.TheVariants as end
+use Rattle.run_texts.specs.declared.record.RunRecord.{RunRecord}
+use Rattle.run_texts.specs.declared.putting.Stop.{Stop}
+use Rattle.run_texts.specs.declared.putting.Stop.TheVariants as stop
 use Rattle.bd_top.specs.declared.status.Status.{Status}
 use Rattle.bd_top.specs.declared.status.Status.TheVariants as status
-use Rattle.bd_top.specs.Replay.{Makes, Puts, Follows, FollowsPart, FollowsSo, IsCause, betters_of}
+use Rattle.run_texts.specs.Texts.{betters_of, summary_of, closing_by, printed_of, noted_of, better_texts, reply_texts}
+use Rattle.run_texts.specs.Taken.{Puts, Follows, FollowsPart, FollowsSo, Taken, Receives, ReceivesPart, HasFailed}
+use Rattle.bd_top.specs.Replay.{Makes, IsCause}
 use Rattle.task_inputs.specs.Reads.{Counts}
 use Rattle.bd_top.specs.Prepared.{IsReady}
 use Rattle.bd_top.specs.Run.{Ends, record_of, opening_of, IsRecorded, IsRunOf, Replays, Finishes, status_of}
-use Rattle.bd_top.specs.Taken.{Taken, Receives, ReceivesPart, HasFailed}
-use Rattle.bd_top.specs.Texts.{summary_of, closing_by, printed_of, noted_of, better_texts, reply_texts}
-use Rattle.bd_top.proofs.ReplayLemmas.{rose_before}
+use Rattle.run_texts.proofs.TakenLemmas.{rose_after, rose_before, whole_part}
 
 finished_by : (done : Unit {0}) (run : RunRecord) (out : Taken) (why : Stop) (st : Status) (ended : Option RunRecord) → st ≡ status_of why → ended ≡ Some run → Puts (summary_of run) out (Err why) → Finishes (Ok done) run out st ended
 finished_by done run out stop.WriteFault st ended e is h = subst (λ z. Finishes (Ok done) run out z ended) (sym e) (is, h)
@@ -41,13 +41,6 @@ makes_opens [] (r ∷ rs) core last m = absurd m
 makes_opens (o ∷ os) [] core last m = subst (λ z. OpensOn core.task core.start core.stop z) (sym m) (refl, refl, refl)
 makes_opens (o ∷ os) (Ok place ∷ rs) core last m = makes_opens os rs (accepted o core) last m.2
 makes_opens (o ∷ os) (Err why ∷ rs) core last m = makes_opens os rs core last m.2
-
--- a text that was received whole, or a first part of it, is a first part of a longer one
-whole_part : (before after : Option (List ℕ)) (p q : List ℕ) → after ≡ appended before p → TakesPart before after (p ++ q)
-whole_part before after p q e = TakesPart-longer before after p q (record { count = length p; within = omega arith; part = e ∙ ap (appended before) (sym (take-length p)) })
-
-rose_after : (a b c : ℕ) → b ≤ c → Rose a b → Rose a c
-rose_after a b c le h = omega (arith, h)
 
 -- what the making of the offers and the summary come to
 module _ (core last : CoreView) (offers : List Offer) (replies : List (Result ℕ Refusal)) (t0 t1 t2 n0 n1 : Option (List ℕ)) (f0 f1 f2 g0 g1 : ℕ)

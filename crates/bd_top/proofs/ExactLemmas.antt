@@ -9,7 +9,7 @@ use Rattle.script_text.specs.declared.script.Script.{Script}
 use Rattle.script_text.specs.Lines.{worded}
 use Rattle.script_text.specs.Whole.{script_at}
 use Rattle.script_text.proofs.SpellsLemmas.{one_spelled}
-use Rattle.bd_top.specs.declared.record.RunRecord.{RunRecord}
+use Rattle.run_texts.specs.declared.record.RunRecord.{RunRecord}
 use Rattle.bd_top.specs.declared.status.File.{File}
 use Rattle.bd_top.specs.declared.status.File.TheVariants as file
 use Rattle.bd_top.specs.declared.status.Status.{Status}
@@ -19,7 +19,7 @@ use Rattle.bd_top.specs.Prepared.{Names, NamesTexts, IsNamedRefusal, IsTextsRefu
 use Rattle.bd_top.specs.Words.{script_named, texts_named}
 use Rattle.command_words.specs.Asked.{Names as TextNames}
 use Rattle.bd_top.specs.Run.{Ends, IsAllDone, IsDecided, IsExact, IsExactRun, IsExactCheck, IsNamedText}
-use Rattle.bd_top.specs.Taken.{Taken}
+use Rattle.run_texts.specs.Taken.{Taken}
 use Rattle.bd_top.proofs.CompleteLemmas.{no_ready_refusal}
 use Rattle.bd_top.proofs.CommandLemmas.{one_command}
 use Rattle.bd_top.proofs.CheckLemmas.{check_done, check_invalid, check_refused}

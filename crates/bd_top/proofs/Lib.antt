@@ -7,7 +7,6 @@ pub mod CheckLemmas
 pub mod TextsLemmas
 pub mod ExactLemmas
 pub mod UsableLemmas
-pub mod TextLemmas
 pub mod ReplayLemmas
 pub mod EndLemmas
 pub mod DeorderLemmas

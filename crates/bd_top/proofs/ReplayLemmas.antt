@@ -1,22 +1,20 @@
 -- The steps of a replay, one by one and together.
-use Rattle.std.proofs.Common.{◌≡◌, inl, inr, ℕ, ◌+◌, ◌<◌, ◌≤◌, List, [], ◌∷◌, ◌++◌, length, get_or, Option, Result, Ok, Err, IfErr, IsErrAnd, refl, sym, ap, ◌∙◌, subst, append_assoc, length-append, arith}
+use Rattle.std.proofs.Common.{◌≡◌, inl, inr, ℕ, ◌+◌, ◌<◌, ◌≤◌, List, [], ◌∷◌, ◌++◌, length, get_or, Option, Result, Ok, Err, IfErr, refl, sym, ap, ◌∙◌, subst, length-append, arith}
 use Rattle.std.proofs.lemmas.List.{append-nil}
-use Rattle.bd_base.specs.Causes.{Rose, TakesPart, appended}
-use Rattle.bd_base.proofs.PutLemmas.{appended-nil, appended-append, TakesPart-after}
 use Rattle.bd_task.specs.TaskView.{TaskView}
-use Rattle.plan_core.specs.Core.{CoreView, State, applied, replay, opened, state_of, accepted}
-use Rattle.plan_core.specs.Law.{IsLawful, after_reply}
-use Rattle.plan_core.proofs.LawLemmas.{replay-append}
+use Rattle.plan_core.specs.Core.{CoreView, accepted}
+use Rattle.plan_core.specs.Law.{after_reply}
 use Rattle.plan_core.specs.Replies.{Replies, TellsFact}
 use Rattle.plan_core.specs.declared.offer.Offer.{Offer}
 use Rattle.plan_core.specs.declared.refusal.Refusal.{Refusal}
 use Rattle.plan_core.specs.declared.refusal.Refusal.TheVariants as refusal
-use Rattle.bd_top.specs.declared.replay.Stop.{Stop}
-use Rattle.bd_top.specs.declared.replay.Stop.TheVariants.{WriteFault, NoMemory}
-use Rattle.bd_top.specs.Taken.{Taken, IsSilent}
-use Rattle.bd_top.specs.Texts.{entry_text, better_texts, reply_line, reply_texts}
-use Rattle.bd_top.specs.Replay.{IsTold, Makes, IsMade, IsUnmade, MakesOne, Puts, Follows, FollowsPart, FollowsSo, IsCause, betters_of}
-use Rattle.bd_top.proofs.TextLemmas.{better_texts-more, reply_texts-more}
+use Rattle.run_texts.specs.declared.putting.Stop.{Stop}
+use Rattle.run_texts.specs.declared.putting.Stop.TheVariants.{WriteFault, NoMemory}
+use Rattle.run_texts.specs.Taken.{Taken, Puts, FollowsSo}
+use Rattle.run_texts.specs.Texts.{reply_line, reply_texts}
+use Rattle.bd_top.specs.Replay.{IsTold, Makes, IsMade, IsUnmade, MakesOne, IsCause}
+use Rattle.run_texts.proofs.TextLemmas.{reply_texts-more}
+use Rattle.run_texts.proofs.TakenLemmas.{rose_before}
 
 abbrev Reply : Type 0
 Reply = Result ℕ Refusal
@@ -43,21 +41,6 @@ told_of facts refusal.Idle h n = h
 told_of facts (refusal.BadOrder i j) h n = h
 told_of facts refusal.NoMemory h n = absurd (n refl)
 
-pub puts_same : (p q : List ℕ) (s : Taken) (r : Result (Unit {0}) Stop) → p ≡ q → Puts p s r → Puts q s r
-puts_same p q s r e h = subst (λ z. Puts z s r) e h
-
-part_none : (before : Option (List ℕ)) (after : Option (List ℕ)) (text : List ℕ) → after ≡ before → TakesPart before after text
-part_none before after text e = record { count = 0; within = omega arith; part = e ∙ sym (appended-nil before) }
-
-pub follows_put : (from to piece : List ℕ) (s : Taken) (r : Result (Unit {0}) Stop) → to ≡ from ++ piece → Puts piece s r → FollowsSo from to s r
-follows_put from to piece s (Ok done) e h = record { piece = piece; grown = e; received = h }
-follows_put from to piece s (Err WriteFault) e h = record { piece = piece; grown = e; received = h.part }
-follows_put from to piece s (Err NoMemory) e h = record { piece = piece; grown = e; received = part_none s.before s.after piece h }
-
-pub follows_none : (from to : List ℕ) (s : Taken) (r : Result (Unit {0}) Stop) → to ≡ from → IsSilent s → FollowsSo from to s r
-follows_none from to s (Ok done) e h = record { piece = []; grown = e ∙ sym (append-nil from); received = h ∙ sym (appended-nil s.before) }
-follows_none from to s (Err why) e h = record { piece = []; grown = e ∙ sym (append-nil from); received = part_none s.before s.after [] h }
-
 pub cause_out : (piece : List ℕ) (out notes : Taken) (r : Result (Unit {0}) Stop) → Puts piece out r → IfErr r (λ why. IsCause out notes why)
 cause_out piece out notes (Ok done) h = tt
 cause_out piece out notes (Err WriteFault) h = inl h.failed
@@ -67,22 +50,6 @@ pub cause_notes : (piece : List ℕ) (out notes : Taken) (r : Result (Unit {0}) 
 cause_notes piece out notes (Ok done) h = tt
 cause_notes piece out notes (Err WriteFault) h = inr h.failed
 cause_notes piece out notes (Err NoMemory) h = tt
-
--- what an offer that was accepted puts comes last
-pub betters_more : (core last : CoreView) (offer : Offer) (place : ℕ) → IsLawful last → Replies core offer (Ok place) → last ≡ accepted offer core →
-    betters_of last ≡ betters_of core ++ entry_text last.task place offer last.tree
-betters_more core last offer place lawful r is =
-    subst (λ (z : CoreView). IsLawful z → betters_of z ≡ betters_of core ++ entry_text z.task place offer z.tree) (sym is)
-    (λ law. better_texts-more core.task 0 (opened core.start) core.history offer ∙ ap (λ z. betters_of core ++ z) (tail law.replays)) lawful
-  where
-    tail : replay (opened core.start) (core.history ++ offer ∷ []) ≡ state_of (accepted offer core) →
-        better_texts core.task (0 + length core.history) (replay (opened core.start) core.history) (offer ∷ []) ≡ entry_text core.task place offer (accepted offer core).tree
-    tail replays = append-nil _
-        ∙ ap (λ (n : ℕ). entry_text core.task n offer (applied offer (replay (opened core.start) core.history)).tree) (let e : place ≡ length core.history + 1 = r.1 in omega (arith, e))
-        ∙ ap (λ (s : State). entry_text core.task place offer s.tree) (sym (replay-append (opened core.start) core.history (offer ∷ [])) ∙ replays)
-
-pub same_betters : (core last : CoreView) → last ≡ core → betters_of last ≡ betters_of core
-same_betters core last e = ap betters_of e
 
 -- the reply text of an offer that was refused comes last
 pub replies_more : (task : TaskView) (before after : List Reply) (number : ℕ) (why : Refusal) → after ≡ before ++ Err why ∷ [] → number ≡ length after → reply_texts task 1 after ≡ reply_texts task 1 before ++ reply_line task number why
@@ -130,31 +97,9 @@ pub same_task : (core last : CoreView) (offer : Offer) (reply : Reply) → last 
 same_task core last offer (Ok place) e = ap (λ (z : CoreView). z.task) e
 same_task core last offer (Err why) e = ap (λ (z : CoreView). z.task) e
 
--- what follows a text that has grown
-pub follows_on : (a b c : List ℕ) (t0 t1 t2 : Option (List ℕ)) (f0 f1 f2 : ℕ) (r : Result (Unit {0}) Stop) →
-    Follows a b (record { before = t0; after = t1; faults = f0; faults_after = f1 }) → FollowsSo b c (record { before = t1; after = t2; faults = f1; faults_after = f2 }) r →
-    FollowsSo a c (record { before = t0; after = t2; faults = f0; faults_after = f2 }) r
-follows_on a b c t0 t1 t2 f0 f1 f2 (Ok done) h k = record {
-  piece = h.piece ++ k.piece;
-  grown = k.grown ∙ ap (λ z. z ++ k.piece) h.grown ∙ append_assoc a h.piece k.piece;
-  received = k.received ∙ ap (λ z. appended z k.piece) h.received ∙ appended-append t0 h.piece k.piece;
-}
-follows_on a b c t0 t1 t2 f0 f1 f2 (Err why) h k = record {
-  piece = h.piece ++ k.piece;
-  grown = k.grown ∙ ap (λ z. z ++ k.piece) h.grown ∙ append_assoc a h.piece k.piece;
-  received = TakesPart-after t0 t1 t2 h.piece k.piece h.received k.received;
-}
-
-pub err_follows : (from to : List ℕ) (s : Taken) (r : Result (Unit {0}) Stop) (P : Stop → Type 0) → IsErrAnd r P → FollowsPart from to s → FollowsSo from to s r
-err_follows from to s (Ok done) P e h = elim e [ ]
-err_follows from to s (Err why) P e h = h
-
 -- the texts of replies, by tasks that are the same
 pub replies_on : (t u : TaskView) (before after : List Reply) (s : Taken) (r : Result (Unit {0}) Stop) → t ≡ u → FollowsSo (reply_texts t 1 before) (reply_texts t 1 after) s r → FollowsSo (reply_texts u 1 before) (reply_texts u 1 after) s r
 replies_on t u before after s r e h = subst (λ (z : TaskView). FollowsSo (reply_texts z 1 before) (reply_texts z 1 after) s r) e h
-
-pub rose_before : (a b c : ℕ) → a ≤ b → Rose b c → Rose a c
-rose_before a b c le h = omega (arith, h)
 
 pub cause_before : (o0 o1 o2 n0 n1 n2 : Option (List ℕ)) (f0 f1 f2 g0 g1 g2 : ℕ) (why : Stop) → f0 ≤ f1 → g0 ≤ g1 →
     IsCause (record { before = o1; after = o2; faults = f1; faults_after = f2 }) (record { before = n1; after = n2; faults = g1; faults_after = g2 }) why →

@@ -7,17 +7,16 @@ use Rattle.task_inputs.specs.declared.answers.Inputs.TheVariants as inputs
 use Rattle.task_inputs.specs.Reads.{Counts, IsUnread}
 use Rattle.task_inputs.specs.Inputs.{Unless}
 use Rattle.task_inputs.proofs.Laws.{ready_texts}
-use Rattle.bd_top.specs.declared.record.RunRecord.{RunRecord}
+use Rattle.run_texts.specs.declared.record.RunRecord.{RunRecord}
 use Rattle.bd_top.specs.declared.prepare.Prepared.{Prepared}
 use Rattle.bd_top.specs.declared.prepare.Prepared.TheVariants as prepared
 use Rattle.bd_top.specs.declared.status.Status.{Status}
 use Rattle.bd_top.specs.declared.status.Status.TheVariants as status
-use Rattle.bd_top.specs.declared.replay.Stop.{Stop}
-use Rattle.bd_top.specs.declared.replay.Stop.TheVariants as stop
-use Rattle.bd_top.specs.Replay.{Puts}
+use Rattle.run_texts.specs.declared.putting.Stop.{Stop}
+use Rattle.run_texts.specs.declared.putting.Stop.TheVariants as stop
+use Rattle.run_texts.specs.Taken.{Puts, Taken, IsSilent, Receives, IsCut}
 use Rattle.bd_top.specs.Texts.{valid_line}
 use Rattle.bd_top.specs.Prepared.{IsRefusal, Tells, NamesTexts, TextsLead, LeadToPlan, IsPreparedOf, IsReadFault, IsNamedRefusal, PreparesNamed, PreparesTexts}
-use Rattle.bd_top.specs.Taken.{Taken, IsSilent, Receives, IsCut}
 use Rattle.bd_top.specs.Words.{span_asked}
 use Rattle.command_words.specs.Asked.{Names as TextNames}
 use Rattle.bd_top.specs.Plans.{IsCheckedPlan}

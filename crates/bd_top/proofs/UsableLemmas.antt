@@ -5,14 +5,14 @@ use Rattle.bd_task.specs.TaskView.{TaskView}
 use Rattle.plan_core.specs.Core.{CoreView, accepted}
 use Rattle.plan_core.specs.declared.offer.Offer.{Offer}
 use Rattle.plan_core.specs.declared.refusal.Refusal.{Refusal}
-use Rattle.bd_top.specs.declared.record.RunRecord.{RunRecord}
+use Rattle.run_texts.specs.declared.record.RunRecord.{RunRecord}
 use Rattle.bd_top.specs.declared.status.Status.{Status}
 use Rattle.bd_top.specs.declared.status.Status.TheVariants as status
 use Rattle.task_inputs.specs.Reads.{Counts}
 use Rattle.bd_top.specs.Deorder.{IsDeorderRun}
 use Rattle.bd_top.specs.Replay.{Makes}
 use Rattle.bd_top.specs.Run.{Ends, IsRunOf, IsRecorded, IsUsable, AreTold}
-use Rattle.bd_top.specs.Taken.{Taken}
+use Rattle.run_texts.specs.Taken.{Taken}
 
 told_by : (offers : List Offer) (replies : List (Result ℕ Refusal)) (core last : CoreView) → Makes core offers replies last → AreTold (length core.task.facts) replies
 told_by offers [] core last m = tt

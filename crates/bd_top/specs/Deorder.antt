@@ -7,12 +7,12 @@ use Rattle.bd_task.specs.Valid.{IsValid}
 use Rattle.bd_report.specs.TreeText.{tree_lines}
 use Rattle.plan_core.specs.Core.{CoreView}
 use Rattle.plan_loosen.specs.Loosened.{IsLoosened}
-use Rattle.bd_top.specs.declared.record.End.TheVariants as end
-use Rattle.bd_top.specs.declared.record.RunRecord.{RunRecord}
+use Rattle.bd_pieces.specs.declared.pieces.End.TheVariants as end
+use Rattle.run_texts.specs.declared.record.RunRecord.{RunRecord}
 use Rattle.bd_top.specs.declared.status.Status.{Status}
 use Rattle.bd_top.specs.declared.status.Status.TheVariants as status
 use Rattle.bd_top.specs.Plans.{IsCheckedPlan}
-use Rattle.bd_top.specs.Taken.{Taken, IsSilent, Receives, IsCut}
+use Rattle.run_texts.specs.Taken.{Taken, IsSilent, Receives, IsCut}
 use Rattle.bd_top.specs.Words.{span_asked}
 
 -- the record of a core whose tree is tight
@@ -22,6 +22,7 @@ tight_record core = record {
   start = core.start;
   history = core.history;
   tree = core.tree;
+  pieces = [];
   replies = [];
   end = Some end.Tight;
 }

@@ -1,15 +1,14 @@
 -- How the offers of a script are made one by one, and what is put for them.
 use Rattle.std.specs.Prelude.{◌≡◌, ◌⊎◌, ℕ, List, [], ◌∷◌, ◌++◌, length, Result, Ok, Err}
-use Rattle.plan_core.specs.Core.{CoreView, opened}
+use Rattle.plan_core.specs.Core.{CoreView}
 use Rattle.plan_core.specs.Law.{after_reply}
 use Rattle.plan_core.specs.Replies.{Replies, TellsFact}
 use Rattle.plan_core.specs.declared.offer.Offer.{Offer}
 use Rattle.plan_core.specs.declared.refusal.Refusal.{Refusal}
 use Rattle.plan_core.specs.declared.refusal.Refusal.TheVariants as refusal
-use Rattle.bd_top.specs.declared.replay.Stop.{Stop}
-use Rattle.bd_top.specs.declared.replay.Stop.TheVariants as stop
-use Rattle.bd_top.specs.Taken.{Taken, IsSilent, Receives, ReceivesPart, HasFailed, IsCut}
-use Rattle.bd_top.specs.Texts.{better_texts}
+use Rattle.run_texts.specs.declared.putting.Stop.{Stop}
+use Rattle.run_texts.specs.declared.putting.Stop.TheVariants as stop
+use Rattle.run_texts.specs.Taken.{Taken, HasFailed}
 
 -- the reply says something of its offer, where there are so many facts: memory wasn't wanting, and a fact that it tells is one of them
 abbrev pub IsTold : ℕ → Result ℕ Refusal → Type 0
@@ -23,10 +22,6 @@ abbrev pub Makes : CoreView → List Offer → List (Result ℕ Refusal) → Cor
 Makes core offers [] last = last ≡ core
 Makes core [] (reply ∷ replies) last = ⊥
 Makes core (offer ∷ offers) (reply ∷ replies) last = IsTold (length core.task.facts) reply × Replies core offer reply × Makes (after_reply core offer reply) offers replies last
-
--- the better texts of a core's history
-abbrev pub betters_of : CoreView → List ℕ
-betters_of core = better_texts core.task 0 (opened core.start) core.history
 
 -- one more offer was made: its reply stands last, and led to the last core
 pub record IsMade (core : CoreView) (offer : Offer) (before after : List (Result ℕ Refusal)) (last : CoreView) : Type 0 where
@@ -45,28 +40,6 @@ pub record IsUnmade (core : CoreView) (before after : List (Result ℕ Refusal))
 abbrev pub MakesOne : CoreView → Offer → List (Result ℕ Refusal) → List (Result ℕ Refusal) → CoreView → Result (Unit {0}) Stop → Type 0
 MakesOne core offer before after last (Err stop.NoMemory) = IsMade core offer before after last ⊎ IsUnmade core before after last
 MakesOne core offer before after last other = IsMade core offer before after last
-
--- a text was put, or the sink failed within it, or memory was wanting before
-abbrev pub Puts : List ℕ → Taken → Result (Unit {0}) Stop → Type 0
-Puts text s (Ok done) = Receives s text
-Puts text s (Err stop.WriteFault) = IsCut s text
-Puts text s (Err stop.NoMemory) = IsSilent s
-
--- where a text grew, a sink has received what came behind
-pub record Follows (from to : List ℕ) (s : Taken) : Type 0 where
-  pub piece : List ℕ
-  pub grown : to ≡ from ++ piece
-  pub received : Receives s piece
-
--- where a text grew, a sink has received a first part of what came behind
-pub record FollowsPart (from to : List ℕ) (s : Taken) : Type 0 where
-  pub piece : List ℕ
-  pub grown : to ≡ from ++ piece
-  pub received : ReceivesPart s piece
-
-abbrev pub FollowsSo : List ℕ → List ℕ → Taken → Result (Unit {0}) Stop → Type 0
-FollowsSo from to s (Ok done) = Follows from to s
-FollowsSo from to s (Err why) = FollowsPart from to s
 
 -- a write fault comes only where a sink failed
 abbrev pub IsCause : Taken → Taken → Stop → Type 0

@@ -15,14 +15,14 @@ use Rattle.seq_check.specs.declared.judging.Broken.{Broken}
 use Rattle.script_text.specs.declared.script.Script.{Script}
 use Rattle.script_text.specs.Limits.{over_of}
 use Rattle.script_text.specs.Spells.{SpellsScript}
-use Rattle.bd_top.specs.declared.record.End.{End}
-use Rattle.bd_top.specs.declared.record.End.TheVariants as end
-use Rattle.bd_top.specs.declared.record.RunRecord.{RunRecord}
+use Rattle.bd_pieces.specs.declared.pieces.End.{End}
+use Rattle.bd_pieces.specs.declared.pieces.End.TheVariants as end
+use Rattle.run_texts.specs.declared.record.RunRecord.{RunRecord}
 use Rattle.bd_top.specs.declared.status.File.{File}
 use Rattle.bd_top.specs.declared.status.Status.{Status}
 use Rattle.bd_top.specs.declared.status.Status.TheVariants as status
-use Rattle.bd_top.specs.declared.replay.Stop.{Stop}
-use Rattle.bd_top.specs.declared.replay.Stop.TheVariants as stop
+use Rattle.run_texts.specs.declared.putting.Stop.{Stop}
+use Rattle.run_texts.specs.declared.putting.Stop.TheVariants as stop
 use Rattle.task_inputs.specs.Reads.{Counts}
 use Rattle.task_inputs.specs.declared.answers.Part.{Part}
 use Rattle.task_inputs.specs.declared.answers.Inputs.TheVariants as inputs
@@ -31,8 +31,9 @@ use Rattle.bd_top.specs.Deorder.{IsTreeTold, IsTreeCut, IsTreeUntold}
 use Rattle.bd_top.specs.Plans.{IsCheckedPlan}
 use Rattle.bd_top.specs.Prepared.{IsReady, IsReadyText, IsRefusal, IsTextRefusal, start_of, file_by}
 use Rattle.bd_top.specs.Replay.{Makes, IsTold}
-use Rattle.bd_top.specs.Taken.{Taken, IsSilent, Receives, ReceivesPart, HasFailed, IsCut}
-use Rattle.bd_top.specs.Texts.{summary_of, printed_of, noted_of, valid_line}
+use Rattle.run_texts.specs.Taken.{Taken, IsSilent, Receives, ReceivesPart, HasFailed, IsCut}
+use Rattle.run_texts.specs.Texts.{summary_of, printed_of, noted_of}
+use Rattle.bd_top.specs.Texts.{valid_line}
 use Rattle.bd_top.specs.Words.{script_named, span_asked, texts_named}
 use Rattle.command_words.specs.Asked.{Names as TextNames}
 
@@ -47,6 +48,7 @@ record_of offers replies core = record {
   start = core.start;
   history = core.history;
   tree = core.tree;
+  pieces = [];
   replies = replies;
   end = end_of offers replies;
 }

@@ -10,15 +10,15 @@ ghost use Rattle.bd_top.specs.Run.{Checks, Ends, Finishes, IsDecided, IsDoneOrNo
 
 use crate::deorder::put_loosened;
 use crate::prepare::{Prepared, prepare_words};
-use crate::record::{End, Reply, RunRecord};
-use crate::replay::{Stop, make_offers, put_text};
+use crate::replay::make_offers;
 use crate::status::{Ended, Status};
-use crate::summary::summary_text;
 use crate::valid::valid_text;
 use bd_base::{ActionId, FromItems, Items, NoMemory, Shelf, Sink};
+use bd_pieces::End;
 use bd_task::Task;
 use bd_tree::Tree;
 use plan_core::{BeginErr, Core, Offer};
+use run_texts::{Reply, RunRecord, Stop, put_text, summary_text};
 use script_text::Script;
 use std::alloc::Global;
 
@@ -52,7 +52,7 @@ fn opened(alloc: Global, task: Task, start: Tree, stop: u32) -> Result<Core, NoM
 }
 
 // The record of a core that some first offers led to, with their replies.
-fn recorded(core: Core, offers: &[Offer], replies: Vec<Reply>) -> RunRecord
+fn recorded(alloc: Global, core: Core, offers: &[Offer], replies: Vec<Reply>) -> RunRecord
     ensures recorded { result ≡ record_of offers.now replies.items core }
     ensures lawful { IsLawful core }
     ensures start { IsPrintable result.task result.start }
@@ -69,6 +69,7 @@ fn recorded(core: Core, offers: &[Offer], replies: Vec<Reply>) -> RunRecord
         start,
         history: Items::of(history),
         tree,
+        pieces: Items::of(Vec::new(alloc)),
         replies: Items::of(replies),
         end,
     }
@@ -130,7 +131,7 @@ fn replayed<S: Sink, E: Sink>(
     let mut core = core;
     let mut replies = replies;
     let made = make_offers(alloc, &mut core, offers, &mut replies, out, notes);
-    let run = recorded(core, offers, replies);
+    let run = recorded(alloc, core, offers, replies);
     finished(alloc, made, run, out)
 }
 

@@ -5,14 +5,14 @@ ghost use Rattle.plan_core.specs.Law.{IsPrintable};
 ghost use Rattle.bd_top.specs.Deorder.{IsKnown, Loosens, TellsTree, tight_record};
 
 use crate::alone::status_of;
-use crate::record::{End, RunRecord};
-use crate::replay::put_text;
 use crate::status::{Ended, Status};
 use bd_base::{ActList, FromItems, Items, Sink};
+use bd_pieces::End;
 use bd_report::tree_text;
 use bd_task::Task;
 use plan_core::Core;
 use plan_loosen::loosened;
+use run_texts::{RunRecord, put_text};
 use std::alloc::Global;
 
 // The record of a core whose tree is tight.
@@ -26,6 +26,7 @@ fn tight_record(alloc: Global, core: Core) -> RunRecord
         start,
         history: Items::of(history),
         tree,
+        pieces: Items::of(Vec::new(alloc)),
         replies: Items::of(Vec::new(alloc)),
         end: Some(End::Tight),
     }

@@ -6,24 +6,17 @@
 #![tactic(auto)]
 
 mod alone;
-mod better;
 mod deorder;
 mod notes;
 mod prepare;
-mod record;
 mod replay;
-mod reply;
 mod status;
-mod summary;
 mod texts;
 mod usage;
 mod valid;
-mod writing;
 
 pub use alone::run_alone;
-pub use better::better_text;
-pub use record::{End, Reply, RunRecord};
-pub use reply::reply_text;
+pub use bd_pieces::End;
+pub use run_texts::{Reply, RunRecord, better_text, reply_text, summary_text};
 pub use status::{Ended, File, Status};
-pub use summary::summary_text;
 pub use usage::USAGE;

@@ -4,9 +4,9 @@ ghost use Rattle.bd_top.specs.Prepared.{IsBrokenLine, HasFact};
 ghost use Rattle.bd_top.specs.Texts.{invalid_line, refused_line, over_line, unread_line, cause_text, file_text, limit_text, unread_text, with_word};
 
 use crate::File;
-use crate::writing::{push_fact, push_number};
 use bd_base::{Cause, FactId, FromItems, Items, Limit, NoMemory, Text};
 use bd_task::Task;
+use run_texts::{push_fact, push_number};
 use seq_check::Broken;
 use std::alloc::Global;
 

@@ -1,7 +1,7 @@
 ghost use Rattle.std.specs.Prelude.{◌≡◌};
 
-use crate::RunRecord;
 use bd_base::{Cause, Limit, Text};
+use run_texts::RunRecord;
 use seq_check::Broken;
 
 /// Which of the command's texts is meant.

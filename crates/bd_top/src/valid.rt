@@ -1,8 +1,8 @@
 ghost use Rattle.std.specs.Prelude.{◌≡◌, IfOk};
 ghost use Rattle.bd_top.specs.Texts.{valid_line};
 
-use crate::writing::push_counted;
 use bd_base::{FromItems, Items, NoMemory, Text};
+use run_texts::push_counted;
 use std::alloc::Global;
 
 /// The line that tells the cost of a valid plan.

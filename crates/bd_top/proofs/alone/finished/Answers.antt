@@ -1,4 +1,4 @@
-use Rattle.bd_top.specs.Texts.{summary_of}
+use Rattle.run_texts.specs.Texts.{summary_of}
 use Rattle.bd_top.proofs.EndLemmas.{finish_stop}
 use Rattle.bd_top.proofs.alone.finished.Goals as goal
 

@@ -7,28 +7,28 @@ use Rattle.bd_top.proofs.prepare.prepare_words.Goals as goal
 pub returns-in-Ok-Some-Replay-clause-prepared : goal.returns-in-Ok-Some-Replay-clause-prepared
 returns-in-Ok-Some-Replay-clause-prepared g c =
     script_prepared _ _ _ c.in-Ok-Some-Replay.script.now
-    (asked_script _ _ (asks_this _ _ _ _ c.in-Ok-Some-Replay.field-0-is c.in-Ok-Some-Replay.field-0-0-is c.in-Ok-Some-Replay.ensures)) _ c.prepare_named.ensures.prepared
+    (asked_script _ _ (asks_this _ _ _ _ c.in-Ok-Some-Replay.field-0-is c.in-Ok-Some-Replay.field-0-0-is c.in-Ok-Some-Replay.ensures.asked)) _ c.prepare_named.ensures.prepared
 
 pub returns-in-Ok-Some-Check-clause-prepared : goal.returns-in-Ok-Some-Check-clause-prepared
 returns-in-Ok-Some-Check-clause-prepared g c =
     texts_prepared _ _ _ (names_of c.in-Ok-Some-Check.texts) None
-    (asked_check _ _ (asks_this _ _ _ _ c.in-Ok-Some-Check.field-0-is c.in-Ok-Some-Check.field-0-0-is c.in-Ok-Some-Check.ensures)) _ c.prepare_texts.ensures.prepared
+    (asked_check _ _ (asks_this _ _ _ _ c.in-Ok-Some-Check.field-0-is c.in-Ok-Some-Check.field-0-0-is c.in-Ok-Some-Check.ensures.asked)) _ c.prepare_texts.ensures.prepared
 
 pub returns-in-Ok-Some-Deorder-clause-prepared : goal.returns-in-Ok-Some-Deorder-clause-prepared
 returns-in-Ok-Some-Deorder-clause-prepared g c =
     texts_prepared _ _ _ (names_of c.in-Ok-Some-Deorder.texts) (Some c.in-Ok-Some-Deorder.span)
-    (asked_deorder _ _ _ (asks_this _ _ _ _ c.in-Ok-Some-Deorder.field-0-is c.in-Ok-Some-Deorder.field-0-0-is c.in-Ok-Some-Deorder.ensures)) _ c.prepare_texts-in-Ok-Some-Deorder.ensures.prepared
+    (asked_deorder _ _ _ (asks_this _ _ _ _ c.in-Ok-Some-Deorder.field-0-is c.in-Ok-Some-Deorder.field-0-0-is c.in-Ok-Some-Deorder.ensures.asked)) _ c.prepare_texts-in-Ok-Some-Deorder.ensures.prepared
 
 pub returns-in-Ok-Some-Improve-clause-prepared : goal.returns-in-Ok-Some-Improve-clause-prepared
 returns-in-Ok-Some-Improve-clause-prepared g c =
     misused_prepared _ _ _
-    (asked_improve _ _ (asks_this _ _ _ _ c.in-Ok-Some-Improve.field-0-is c.in-Ok-Some-Improve.field-0-0-is c.in-Ok-Some-Improve.ensures)) _ c.misused.ensures
+    (asked_improve _ _ (asks_this _ _ _ _ c.in-Ok-Some-Improve.field-0-is c.in-Ok-Some-Improve.field-0-0-is c.in-Ok-Some-Improve.ensures.asked)) _ c.misused.ensures
 
 pub returns-in-Ok-Some-Bench-clause-prepared : goal.returns-in-Ok-Some-Bench-clause-prepared
 returns-in-Ok-Some-Bench-clause-prepared g c =
     misused_prepared _ _ _
-    (asked_bench _ _ (asks_this _ _ _ _ c.in-Ok-Some-Bench.field-0-is c.in-Ok-Some-Bench.field-0-0-is c.in-Ok-Some-Bench.ensures)) _ c.misused-in-Ok-Some-Bench.ensures
+    (asked_bench _ _ (asks_this _ _ _ _ c.in-Ok-Some-Bench.field-0-is c.in-Ok-Some-Bench.field-0-0-is c.in-Ok-Some-Bench.ensures.asked)) _ c.misused-in-Ok-Some-Bench.ensures
 
 pub returns-in-Ok-None-clause-prepared : goal.returns-in-Ok-None-clause-prepared
 returns-in-Ok-None-clause-prepared g c =
-    misused_prepared _ _ _ (asked_nothing _ (asks_none _ _ c.in-Ok-None.field-0-is c.in-Ok-None.ensures)) _ c.misused-in-Ok-None.ensures
+    misused_prepared _ _ _ (asked_nothing _ (asks_none _ _ c.in-Ok-None.field-0-is c.in-Ok-None.ensures.asked)) _ c.misused-in-Ok-None.ensures

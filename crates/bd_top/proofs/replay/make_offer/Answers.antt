@@ -1,8 +1,9 @@
 use Rattle.std.proofs.Common.{Err, refl, ap, ◌∙◌, rules}
 use Rattle.bd_task.specs.TaskView.{TaskView}
 use Rattle.plan_core.specs.Core.{CoreView}
-use Rattle.bd_top.specs.Texts.{reply_line}
-use Rattle.bd_top.proofs.ReplayLemmas.{made_one, told_of, follows_put, follows_none, betters_more, same_betters, puts_same, replies_more, replies_same}
+use Rattle.run_texts.specs.Texts.{reply_line}
+use Rattle.run_texts.proofs.TakenLemmas.{follows_put, follows_none, betters_more, same_betters, puts_same}
+use Rattle.bd_top.proofs.ReplayLemmas.{made_one, told_of, replies_more, replies_same}
 use Rattle.bd_top.proofs.replay.make_offer.Goals as goal
 
 pub returns-in-Ok-clause-out : goal.returns-in-Ok-clause-out

@@ -1,5 +1,6 @@
 use Rattle.std.proofs.Common.{Ok, Err, ◌∙◌, arith}
-use Rattle.bd_top.proofs.ReplayLemmas.{made_more, made_stop, one_more, same_task, follows_on, err_follows, replies_on}
+use Rattle.run_texts.proofs.TakenLemmas.{follows_on, err_follows}
+use Rattle.bd_top.proofs.ReplayLemmas.{made_more, made_stop, one_more, same_task, replies_on}
 use Rattle.bd_top.proofs.replay.make_offers.Goals as goal
 
 pub returns-in_err-make_offer-clause-made : goal.returns-in_err-make_offer-clause-made

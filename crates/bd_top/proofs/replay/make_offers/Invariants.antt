@@ -1,6 +1,7 @@
 use Rattle.std.proofs.Common.{◌≡◌, ◌≤◌, [], length, vec_capacity}
-use Rattle.bd_top.specs.Replay.{Makes, Follows, betters_of}
-use Rattle.bd_top.specs.Texts.{reply_texts}
+use Rattle.run_texts.specs.Texts.{betters_of, reply_texts}
+use Rattle.run_texts.specs.Taken.{Follows}
+use Rattle.bd_top.specs.Replay.{Makes}
 use Rattle.bd_top.proofs.replay.make_offers.Given as goal
 
 abbrev pub invariant-loop-offer : goal.invariant-loop-offer
