@@ -1,9 +1,9 @@
 -- What the walk finds is a candidate that qualifies; and where it finds nothing, no candidate does.
-use Rattle.std.proofs.Common.{◌≡◌, ◌↔◌, ℕ, zero, suc, ◌+◌, ◌<◌, Bool, true, false, not, ◌&&◌, ◌||◌, eqb, cond, List, [], ◌∷◌, ◌++◌, All, filter, get_or, length, map, take, drop, Option, Some, None, IfSome, IfNone, slice_get, refl, sym, ap, ◌∙◌, subst, inl, inr, arith}
-use Rattle.std.specs.List.{AllByRecursion, list_all}
+use Rattle.std.proofs.Common.{◌≡◌, ℕ, zero, suc, ◌<◌, Bool, true, false, not, ◌&&◌, ◌||◌, eqb, cond, List, [], ◌∷◌, ◌++◌, All, filter, get_or, length, map, take, drop, Option, Some, None, slice_get, refl, sym, ap, ◌∙◌, subst, inl, inr, arith}
+use Rattle.std.specs.List.{list_all}
 use Rattle.std.specs.Option.{is_none, option_map}
 use Rattle.std.specs.Prelude.{nat_lt}
-use Rattle.std.proofs.lemmas.Bool.{and_parts, and_from, both_ways, cases_Bool, eq-eqb, eqb-true, le-ltb, or_cases, or_left, or_right}
+use Rattle.std.proofs.lemmas.Bool.{and_parts, and_from, both_ways, eq-eqb, eqb-true, le-ltb, or_cases, or_left, or_right}
 use Rattle.std.proofs.lemmas.List.Elements.{All-from_get_or, All-get_or}
 use Rattle.std.proofs.lemmas.Option.{get_or_from_slice_get, slice_get-get_or, slice_get-map}
 use Rattle.bd_base.specs.Facts.{has}
@@ -22,7 +22,7 @@ use Rattle.bd_reason.specs.Reasons.{fact_of, reasons_of}
 use Rattle.bd_shape.specs.Grouped.{CanGroup}
 use Rattle.bd_shape.specs.Hull.{hull_of}
 use Rattle.bd_tight.specs.declared.gain.Gain.{Gain}
-use Rattle.bd_tight.specs.Candidates.{IsCandidate, IsSide, IsTight, Qualifies, candidates, concerns, fits}
+use Rattle.bd_tight.specs.Candidates.{IsSide, IsTight, Qualifies, candidates, concerns, fits}
 use Rattle.bd_tight.specs.Gains.{StandsIn, blocks_of, facts_between, first_gain, gain_among, gain_at, gain_if, gain_in, gain_of_pairs, gain_of_two, gain_with, ids_related, qualifies, sides_by}
 use Rattle.bd_tight.proofs.CandidateLemmas.{all_rec}
 use Rattle.bd_tight.proofs.GainLaw.{child_id, to_words}
@@ -45,7 +45,7 @@ module _ {A : Type 0} where
   none_in (None ∷ xs) e o (there i) = none_in xs e o i
   none_in (Some b ∷ xs) e o i = absurd (cc)
 
-  first_none : (xs : List (Option A)) → ((o : Option A) → In o xs → o ≡ None) → first_some xs ≡ None
+  pub first_none : (xs : List (Option A)) → ((o : Option A) → In o xs → o ≡ None) → first_some xs ≡ None
   first_none [] h = refl
   first_none (None ∷ xs) h = first_none xs (λ o i. h o (there i))
   first_none (Some b ∷ xs) h = let e : Some b ≡ None = h (Some b) here in absurd (cc)

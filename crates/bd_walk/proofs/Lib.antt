@@ -1,4 +1,5 @@
 pub mod FoundLemmas
+pub mod LongLemmas
 pub mod RowLemmas
 pub mod TellLemmas
 pub mod ThreatLemmas

@@ -1,5 +1,5 @@
 -- What the walk's functions are told by those that they call, and what they tell.
-use Rattle.std.proofs.Common.{◌≡◌, ◌↔◌, ℕ, ◌+◌, ◌<◌, Bool, true, false, not, ◌&&◌, ◌||◌, cond, List, drop, get_or, length, map, take, Option, Some, None, Result, Ok, Err, IfNone, IfOk, IfSome, slice_get, refl, sym, ap, ◌∙◌, subst}
+use Rattle.std.proofs.Common.{◌≡◌, ◌↔◌, ℕ, ◌+◌, ◌<◌, Bool, true, false, not, ◌&&◌, ◌||◌, cond, List, drop, get_or, length, map, take, Option, Some, None, Result, Ok, Err, IfNone, IfOk, IfSome, slice_get, refl, sym, ap, ◌∙◌}
 use Rattle.std.specs.List.{list_all}
 use Rattle.std.specs.Option.{is_none}
 use Rattle.std.specs.Prelude.{nat_lt}

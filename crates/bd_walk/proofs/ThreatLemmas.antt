@@ -1,33 +1,29 @@
 -- A pair of which the first kid needs what the second deletes may not go from a sound tree; so a candidate whose grouped sides
 -- are such a pair doesn't qualify.
-use Rattle.std.proofs.Common.{◌≡◌, ℕ, zero, suc, Bool, true, false, not, ◌&&◌, ◌||◌, eqb, cond, List, [], ◌∷◌, filter, length, map, Option, Some, None, slice_get, refl, sym, ap, ◌∙◌, subst, inl, inr, arith}
+use Rattle.std.proofs.Common.{◌≡◌, ℕ, zero, suc, Bool, true, false, not, ◌&&◌, eqb, cond, List, [], ◌∷◌, map, Option, Some, None, slice_get, refl, sym, ap, ◌∙◌, subst, inl, inr, arith}
 use Rattle.std.specs.List.{list_any, list_all}
-use Rattle.std.specs.Option.{option_map_or, is_none}
-use Rattle.std.specs.Prelude.{nat_lt}
-use Rattle.std.proofs.lemmas.Bool.{and_parts, and_from, both_ways, cases_Bool, eqb-true, eq-eqb, false_from_ne_true, or_cases, or_left, or_right}
+use Rattle.std.specs.Option.{option_map_or}
+use Rattle.std.proofs.lemmas.Bool.{and_parts, and_from, both_ways, eqb-true, eq-eqb, false_from_ne_true, or_cases, or_left, or_right}
 use Rattle.bd_base.specs.Facts.{has}
 use Rattle.bd_base.specs.Pairs.{is_before, without_pair}
-use Rattle.bd_task.specs.declared.ground.Action.{Action}
 use Rattle.bd_task.specs.TaskView.{TaskView}
 use Rattle.bd_tree.specs.declared.node.Node.{Node, Block}
-use Rattle.bd_tree.specs.Tree.{depth_of, find_in, greatest, id_of, ids_of, nodes_of, pairs_of}
+use Rattle.bd_tree.specs.Tree.{find_in, id_of, nodes_of}
 use Rattle.bd_tree.specs.WellFormed.{IsWellFormed, are_distinct, has_orders}
-use Rattle.bd_tree.proofs.TreeLemmas.{found_by_id}
-use Rattle.bd_links.specs.Sound.{IsSound, effects_of, are_below, first_fault}
+use Rattle.bd_links.specs.Sound.{IsSound, effects_of}
 use Rattle.bd_shape.proofs.KidLemmas.{IsThere, is_there}
 use Rattle.bd_shape.proofs.TimesLemmas.{kids_distinct}
 use Rattle.bd_shape.proofs.WholeLemmas as whole
 use Rattle.bd_shape.specs.Grouped.{CanGroup, grouped, side_id}
 use Rattle.bd_shape.specs.Measures.{AddUpAlike}
-use Rattle.bd_shape.specs.Tightened.{both_grouped, right_fresh}
-use Rattle.bd_shape.specs.Unordered.{CanUnorder, stands_at, unordered, unordered_block, unordered_pairs}
+use Rattle.bd_shape.specs.Tightened.{right_fresh}
+use Rattle.bd_shape.specs.Unordered.{stands_at, unordered, unordered_block, unordered_pairs}
 use Rattle.bd_tight.specs.declared.gain.Gain.{Gain}
-use Rattle.bd_tight.specs.Candidates.{Qualifies, fits, fresh_of, tree_of}
+use Rattle.bd_tight.specs.Candidates.{fits, fresh_of, tree_of}
 use Rattle.bd_tight.specs.Gains.{Makes, MakesBoth, gain_if, is_better, qualifies}
-use Rattle.bd_tight.specs.Judged.{touch_at, kid_row, judged, AreJudged}
-use Rattle.bd_tight.specs.Path.{Frame, filled}
-use Rattle.bd_tight.specs.Touch.{Touch, is_reason, stays_fine, cd_ok, pc_ok, dp_ok}
-use Rattle.bd_tight.proofs.AlikeLemmas.{below_alike}
+use Rattle.bd_tight.specs.Judged.{touch_at, kid_row, AreJudged}
+use Rattle.bd_tight.specs.Path.{filled}
+use Rattle.bd_tight.specs.Touch.{is_reason, stays_fine, cd_ok, pc_ok}
 use Rattle.bd_tight.proofs.FitLemmas.{fit_parts, right_groups}
 use Rattle.bd_tight.proofs.GainLaw.{to_words}
 use Rattle.bd_tight.proofs.HullLemmas.{named_at}

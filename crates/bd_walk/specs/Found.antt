@@ -1,16 +1,18 @@
 -- Inner: serves this crate's own proofs alone.
 -- What the walk finds, and what it passes.
 use Rattle.std.specs.Option.{is_none}
-use Rattle.std.specs.Prelude.{◌≡◌, ℕ, Bool, true, ◌&&◌, List, map, Option, Some, None, slice_get}
+use Rattle.std.specs.Prelude.{◌≡◌, ℕ, ◌+◌, ◌<◌, Bool, true, ◌&&◌, List, map, Option, Some, None, slice_get}
 use Rattle.bd_task.specs.declared.ground.Action.{Action}
 use Rattle.bd_task.specs.TaskView.{TaskView}
 use Rattle.bd_tree.specs.declared.node.Node.{Node, Block}
-use Rattle.bd_tree.specs.Tree.{find_in}
+use Rattle.bd_tree.specs.Tree.{find_in, greatest, ids_of, nodes_of}
 use Rattle.bd_tree.specs.WellFormed.{IsWellFormed}
 use Rattle.bd_links.specs.Child.{Child}
 use Rattle.bd_links.specs.Sound.{child_of}
+use Rattle.bd_shape.specs.Grouped.{count_taken, grouped}
+use Rattle.bd_shape.specs.Measures.{AddUpAlike}
 use Rattle.bd_tight.specs.declared.gain.Gain.{Gain}
-use Rattle.bd_tight.specs.Candidates.{IsCandidate, Qualifies, fits}
+use Rattle.bd_tight.specs.Candidates.{IsCandidate, Qualifies, fits, fresh_of}
 use Rattle.bd_tight.specs.Gains.{facts_between, gain_at, gain_in, ids_related, qualifies, sides_by}
 
 -- the block stands in the tree, with this order, and these are its kids with their effects
@@ -20,6 +22,15 @@ pub record Stands (actions : List Action) (root : Node) (own : ℕ) (block : Nod
   pub found : find_in own root ≡ Some (Block own kids order)
   pub is : block ≡ Block own kids order
   pub known_are : known ≡ map (child_of actions) kids
+
+-- the tree in which the left side is grouped, as the id that was free
+pub record GroupsLeft (root : Node) (block : ℕ) (left : List ℕ) (next : ℕ) (first : Node) : Type 0 where
+  pub well : IsWellFormed root
+  pub free : next ≡ fresh_of root
+  pub is : first ≡ grouped root block left next
+  pub nodes : nodes_of first ≡ nodes_of root + count_taken left
+  pub alike : AddUpAlike root first
+  pub top : greatest (ids_of first) < next + count_taken left
 
 -- a candidate that qualifies
 pub record IsFound (task : TaskView) (root : Node) (span : ℕ) (gain : Gain) : Type 0 where

@@ -9,6 +9,7 @@ ghost use Rattle.bd_tree.specs.Tree.{nodes_of, ids_of, greatest};
 ghost use Rattle.bd_tree.specs.WellFormed.{IsWellFormed};
 ghost use Rattle.bd_tight.specs.Candidates.{fits, fresh_of};
 ghost use Rattle.bd_tight.specs.Gains.{MakesBoth, are_short, gain_if, is_better};
+ghost use Rattle.bd_walk.specs.Found.{GroupsLeft};
 
 use crate::threat::is_threatened;
 use bd_base::{IdList, NoMemory, NodeId};
@@ -63,8 +64,8 @@ fn side_id(ids: &[NodeId], fresh: NodeId) -> NodeId
     }
 }
 
-// The id that is free in the tree.
-fn fresh_of(tree: &Tree) -> NodeId
+/// The id that is free in the tree.
+pub(crate) fn fresh_of(tree: &Tree) -> NodeId
     requires { greatest (ids_of tree.now) + 1 < 2 ^ 63 }
     ensures fresh { result ≡ fresh_of tree.now }
     ensures well { IsWellFormed tree.now }
@@ -80,15 +81,18 @@ fn right_fresh(left: &[NodeId], next: NodeId) -> NodeId
     NodeId(next.0 + count_taken(left))
 }
 
-// The tree in which both sides are grouped, if the candidate fits.
+// The tree in which both sides are grouped, if the candidate fits; in the first one the left side is.
 fn grouped_sides(
     alloc: Global,
     tree: &Tree,
     span: u32,
+    first: &Tree,
+    next: NodeId,
     block: NodeId,
     left: &[NodeId],
     right: &[NodeId],
 ) -> Result<Option<Tree>, NoMemory>
+    requires first { GroupsLeft tree.now block left.now next first.now }
     requires left { CanGroup tree.now block left.now }
     requires right { CanGroup tree.now block right.now }
     requires ids { greatest (ids_of tree.now) + 1 < 2 ^ 63 }
@@ -98,13 +102,11 @@ fn grouped_sides(
     if !are_short(span, left, right) {
         return Ok(None);
     }
-    let next = fresh_of(tree);
-    let first = group(alloc, tree, block, left, next)?;
-    if !can_group(&first, block, right) {
+    if !can_group(first, block, right) {
         return Ok(None);
     }
     let free = right_fresh(left, next);
-    let both = group(alloc, &first, block, right, free)?;
+    let both = group(alloc, first, block, right, free)?;
     if !can_unorder(&both, block, side_id(left, next), side_id(right, free)) {
         return Ok(None);
     }
@@ -150,11 +152,14 @@ fn gain_grouped(
     task: &Task,
     tree: &Tree,
     span: u32,
+    first: &Tree,
+    next: NodeId,
     both: &Tree,
     block: NodeId,
     left: &[NodeId],
     right: &[NodeId],
 ) -> Result<Option<Gain>, NoMemory>
+    requires first { GroupsLeft tree.now block left.now next first.now }
     requires below { IsTrue (are_below (length task.now.actions) tree.now) }
     requires few { nodes_of tree.now + 2 < 2 ^ 32 }
     requires ids { greatest (ids_of tree.now) + 1 < 2 ^ 63 }
@@ -164,13 +169,12 @@ fn gain_grouped(
     requires makes { MakesBoth tree.now span (record { block = block; left = left.now; right = right.now }) both.now }
     ensures { IfOk result (λ told. told ≡ gain_if task.now tree.now span (record { block = block; left = left.now; right = right.now })) }
 {
-    let next = fresh_of(tree);
-    let first = side_id(left, next);
-    let second = side_id(right, right_fresh(left, next));
-    if is_threatened(alloc, task, both, block, first, second)? {
+    let one = side_id(left, next);
+    let two = side_id(right, right_fresh(left, next));
+    if is_threatened(alloc, task, both, block, one, two)? {
         return Ok(None);
     }
-    let made = unorder(alloc, both, block, first, second)?;
+    let made = unorder(alloc, both, block, one, two)?;
     if !is_better(alloc, task, tree, &made)? {
         return Ok(None);
     }
@@ -178,17 +182,20 @@ fn gain_grouped(
     Ok(Some(gain))
 }
 
-/// The two sides, if they are a candidate that fits and qualifies. Where the left one needs what the right one deletes, it is
-/// refused before it is unordered and checked.
+/// The two sides, if they are a candidate that fits and qualifies; in the first tree the left one is grouped. Where the left one
+/// needs what the right one deletes, it is refused before it is unordered and checked.
 pub(crate) fn gain_if(
     alloc: Global,
     task: &Task,
     tree: &Tree,
     span: u32,
+    first: &Tree,
+    next: NodeId,
     block: NodeId,
     left: &[NodeId],
     right: &[NodeId],
 ) -> Result<Option<Gain>, NoMemory>
+    requires first { GroupsLeft tree.now block left.now next first.now }
     requires below { IsTrue (are_below (length task.now.actions) tree.now) }
     requires few { nodes_of tree.now + 2 < 2 ^ 32 }
     requires ids { greatest (ids_of tree.now) + 1 < 2 ^ 63 }
@@ -197,8 +204,12 @@ pub(crate) fn gain_if(
     requires right { CanGroup tree.now block right.now }
     ensures { IfOk result (λ told. told ≡ gain_if task.now tree.now span (record { block = block; left = left.now; right = right.now })) }
 {
-    match grouped_sides(alloc, tree, span, block, left, right)? {
+    match grouped_sides(alloc, tree, span, first, next, block, left, right)? {
         None => Ok(None),
-        Some(both) => gain_grouped(alloc, task, tree, span, &both, block, left, right),
+        Some(both) => {
+            gain_grouped(
+                alloc, task, tree, span, first, next, &both, block, left, right,
+            )
+        }
     }
 }

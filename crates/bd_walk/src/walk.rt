@@ -11,10 +11,11 @@ ghost use Rattle.bd_tight.specs.Candidates.{IsCandidate, IsTight, Qualifies};
 ghost use Rattle.bd_tight.specs.Gains.{HasId, blocks_of, gain_among, gain_of_two, gain_with};
 ghost use Rattle.bd_walk.specs.Found.{IsFound, IsTried, Stands, misses, misses_in};
 
-use crate::judging::gain_if;
+use crate::judging::{fresh_of, gain_if};
 use crate::sides::{facts_between, related, related_from, sides};
 use bd_base::{IdList, NoMemory, NodeId, PairList};
 use bd_links::{Child, as_child};
+use bd_shape::group;
 use bd_task::Task;
 use bd_tight::Gain;
 use bd_tree::{Node, Tree};
@@ -62,7 +63,7 @@ fn children_of<'a>(alloc: Global, task: &'a Task, kids: &[Node]) -> Result<Vec<C
     Ok(all)
 }
 
-// The first candidate of the left side and one of the right ones that fits and qualifies.
+// The first candidate of the left side and one of the right ones that fits and qualifies. The left side is grouped once for all.
 fn gain_with(
     alloc: Global,
     task: &Task,
@@ -80,8 +81,23 @@ fn gain_with(
     requires rights { All (CanGroup tree.now block) rights.now }
     ensures { IfOk result (λ told. told ≡ gain_with task.now tree.now span block rights.now left.now) }
 {
+    if left.len() > span as usize {
+        return Ok(None);
+    }
+    let next = fresh_of(tree);
+    let first = group(alloc, tree, block, left, next)?;
     for right in rights {
-        match gain_if(alloc, task, tree, span, block, left, right.as_slice())? {
+        match gain_if(
+            alloc,
+            task,
+            tree,
+            span,
+            &first,
+            next,
+            block,
+            left,
+            right.as_slice(),
+        )? {
             Some(gain) => return Ok(Some(gain)),
             None => {}
         }
