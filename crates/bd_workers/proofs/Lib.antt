@@ -1,5 +1,8 @@
 mod DoneLemmas
+mod EqualLemmas
+mod KeptLemmas
 mod QuietLemmas
 mod StayLemmas
 mod StepLemmas
-mod TurnLemmas
+pub mod TurnLemmas
+mod WalkLemmas

@@ -4,6 +4,7 @@ ghost use Rattle.plan_rebuild.specs.Rebuilds.{GrowsRightly};
 ghost use Rattle.bd_workers.specs.Inner.{goes_on};
 ghost use Rattle.bd_workers.specs.Turn.{IsOver};
 
+use crate::keeping::Kept;
 use crate::parts::{Setup, Turn};
 use crate::turns::turn_with;
 use bd_pieces::Proposer;
@@ -30,9 +31,10 @@ pub fn improved<P: Proposer>(alloc: Global, core: Core, setup: &Setup, crew: &mu
     ensures memory { IfErr result.pieces (λ _. result.end ≡ None) }
 {
     let proposer = &mut crew[0];
-    let mut turn = turn_with(alloc, core, setup, proposer);
+    let mut kept = Kept::new(alloc);
+    let mut turn = turn_with(alloc, core, setup, proposer, &mut kept);
     while goes_on(&turn) {
-        turn = turn_with(alloc, turn.core, setup, proposer);
+        turn = turn_with(alloc, turn.core, setup, proposer, &mut kept);
     }
     turn
 }

@@ -10,13 +10,16 @@
 //! contract says.
 #![tactic(auto)]
 
+mod equal;
 mod improving;
+mod keeping;
 mod law;
 mod looking;
 mod offering;
 mod parts;
 mod rounds;
 mod turns;
+mod windows;
 
 pub use improving::improved;
 pub use law::{quiet_is_done, quiet_rounds, turns_run_out};

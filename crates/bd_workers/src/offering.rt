@@ -12,10 +12,11 @@ ghost use Rattle.plan_core.specs.declared.offer.Offer.TheVariants.{Replace};
 ghost use Rattle.bd_workers.specs.Round.{WasRefused, WasTold};
 ghost use Rattle.plan_rebuild.specs.Grown.{Adds};
 
-use bd_base::{ActList, ActionId, FromItems, Items, NoMemory};
+use crate::windows::copy_of;
+use bd_base::{ActList, ActionId, NoMemory};
 use bd_merge::Window;
 use bd_pieces::Refused;
-use bd_tree::{Node, NodeList};
+use bd_tree::Node;
 use plan_core::{Core, Offer, Refusal, replacements};
 use std::alloc::Global;
 
@@ -29,26 +30,12 @@ fn is_memory(why: &Refusal) -> bool
     }
 }
 
-fn copies_of(alloc: Global, nodes: &[Node]) -> Result<NodeList, NoMemory>
-    ensures { IfOk result (λ copies. copies ≡ nodes.now) }
-{
-    let mut copies = Vec::new(alloc);
-    for node in nodes {
-        copies.push(node.try_copy(alloc)?)?;
-    }
-    Ok(Items::of(copies))
-}
-
 // The replacement of the window by the list.
 fn replacement(alloc: Global, window: &Window, list: &[ActionId]) -> Result<Offer, NoMemory>
     ensures { IfOk result (λ offer. offer ≡ Replace window.now list.now) }
 {
     Ok(Offer::Replace {
-        window: Window {
-            block: window.block,
-            kids: copies_of(alloc, window.kids.as_slice())?,
-            lean: window.lean,
-        },
+        window: copy_of(alloc, window)?,
         actions: ActList::from_slice(alloc, list)?,
     })
 }

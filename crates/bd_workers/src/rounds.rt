@@ -1,19 +1,24 @@
 // A round by one worker: each window is looked at in turn, and what is found for it is offered.
-ghost use Rattle.std.specs.Prelude.{◌<◌, ◌≤◌, length, IfOk};
+ghost use Rattle.std.specs.Prelude.{◌≡◌, ◌<◌, ◌≤◌, true, false, [], length, IfOk, OnOk};
 ghost use Rattle.bd_merge.specs.Stands.{Stands};
 ghost use Rattle.bd_merge.specs.declared.standing.Found.TheVariants.{At};
 ghost use Rattle.bd_subtask.specs.Law.{Fits};
 ghost use Rattle.plan_core.specs.Core.{is_replacement};
 ghost use Rattle.plan_rebuild.specs.Grown.{Adds};
+ghost use Rattle.bd_workers.specs.Inner.{AreTrue, Shows, Walks};
 ghost use Rattle.bd_workers.specs.Round.{ArePieces, IsPiece, IsRound, IsVerdictOn, RepliesTo};
 
-use crate::looking::verdict_of;
+use crate::keeping::Kept;
+use crate::looking::{View, verdict_of};
 use crate::offering::{offer_proposal, reply_to_found};
 use crate::parts::{Round, Setup};
+use crate::windows::{Listed, Windows};
 use bd_base::NoMemory;
 use bd_merge::{Found, Window, stands};
 use bd_pieces::{Piece, Proposer, Refused, Verdict, What};
 use bd_search::Kind;
+use bd_subtask::Posing;
+use bd_task::Task;
 use plan_core::Core;
 use std::alloc::Global;
 
@@ -68,19 +73,23 @@ fn reply_of<P: Proposer>(
 fn judged<P: Proposer>(
     alloc: Global,
     core: &mut Core,
+    view: &View<'_>,
     window: &Window,
-    nodes: u32,
     proposer: &mut P,
+    kept: &mut Kept,
 ) -> Result<Piece, NoMemory>
     requires stands { Stands core.old.tree window.now At }
     requires few { length core.old.task.facts ≤ 262_144 }
+    requires shows { Shows view.now core.old }
+    requires kept { AreTrue core.old.task view.now.nodes kept.old }
     ensures adds { Adds is_replacement core.old core.new }
-    ensures piece { IfOk result (λ p. IsPiece core.old core.new nodes window.now p) }
+    ensures kept { AreTrue core.old.task view.now.nodes kept.new }
+    ensures piece { IfOk result (λ p. IsPiece core.old core.new view.now.nodes window.now p) }
 {
     core.keeps();
     let place = core.history().len() as u64;
-    let verdict = verdict_of(alloc, core, window, nodes)?;
-    let reply = reply_of(alloc, core, window, &verdict, nodes, proposer)?;
+    let verdict = verdict_of(alloc, core, view, window, kept)?;
+    let reply = reply_of(alloc, core, window, &verdict, view.nodes, proposer)?;
     Ok(Piece {
         place,
         what: What::Judged { verdict, reply },
@@ -91,18 +100,22 @@ fn judged<P: Proposer>(
 fn piece_of<P: Proposer>(
     alloc: Global,
     core: &mut Core,
+    view: &View<'_>,
     window: &Window,
-    nodes: u32,
     proposer: &mut P,
+    kept: &mut Kept,
 ) -> Result<Piece, NoMemory>
     requires few { length core.old.task.facts ≤ 262_144 }
+    requires shows { Shows view.now core.old }
+    requires kept { AreTrue core.old.task view.now.nodes kept.old }
     ensures adds { Adds is_replacement core.old core.new }
-    ensures piece { IfOk result (λ p. IsPiece core.old core.new nodes window.now p) }
+    ensures kept { AreTrue core.old.task view.now.nodes kept.new }
+    ensures piece { IfOk result (λ p. IsPiece core.old core.new view.now.nodes window.now p) }
 {
     core.keeps();
     let place = core.history().len() as u64;
     match stands(core.tree(), window) {
-        Found::At => judged(alloc, core, window, nodes, proposer),
+        Found::At => judged(alloc, core, view, window, proposer, kept),
         Found::Gone => Ok(Piece {
             place,
             what: What::Skipped(Found::Gone),
@@ -114,23 +127,140 @@ fn piece_of<P: Proposer>(
     }
 }
 
-// A piece for each window, in their order.
-pub(crate) fn pieces_of<P: Proposer>(
+// The same, and whether the history has grown; else the core is the same.
+fn step<P: Proposer>(
     alloc: Global,
     core: &mut Core,
-    windows: &[Window],
+    view: &View<'_>,
+    window: &Window,
+    proposer: &mut P,
+    kept: &mut Kept,
+) -> Result<(Piece, bool), NoMemory>
+    requires few { length core.old.task.facts ≤ 262_144 }
+    requires shows { Shows view.now core.old }
+    requires kept { AreTrue core.old.task view.now.nodes kept.old }
+    ensures adds { Adds is_replacement core.old core.new }
+    ensures kept { AreTrue core.old.task view.now.nodes kept.new }
+    ensures piece { IfOk result (λ r. IsPiece core.old core.new view.now.nodes window.now r.0) }
+    ensures same { IfOk result (λ r. r.1 ≡ false → core.new ≡ core.old) }
+{
+    core.keeps();
+    let before = core.history().len();
+    let piece = piece_of(alloc, core, view, window, proposer, kept)?;
+    core.keeps();
+    let grown = core.history().len() > before;
+    Ok((piece, grown))
+}
+
+// Looks at the windows until the history has grown or none is left, and puts a piece for each. It tells whether the history
+// has grown.
+fn put_pieces<W: Windows, P: Proposer>(
+    alloc: Global,
+    core: &mut Core,
+    view: &View<'_>,
+    windows: &mut W,
+    proposer: &mut P,
+    kept: &mut Kept,
+    pieces: &mut Vec<Piece>,
+) -> Result<bool, NoMemory>
+    requires few { length core.old.task.facts ≤ 262_144 }
+    requires shows { Shows view.now core.old }
+    requires kept { AreTrue core.old.task view.now.nodes kept.old }
+    ensures adds { Adds is_replacement core.old core.new }
+    ensures kept { AreTrue core.old.task view.now.nodes kept.new }
+    ensures walks { OnOk result (Walks core.old core.new view.now.nodes (W.left windows.old) (W.left windows.new) pieces.old.items pieces.new.items) }
+    ensures fewer { IfOk result (λ grown. grown ≡ true → length (W.left windows.new) < length (W.left windows.old)) }
+    ensures none { IfOk result (λ grown. grown ≡ false → W.left windows.new ≡ []) }
+{
+    while let Some(window) = windows.give(alloc)? {
+        let (piece, grown) = step(alloc, core, view, &window, proposer, kept)?;
+        pieces.push(piece)?;
+        if grown {
+            return Ok(true);
+        }
+    }
+    Ok(false)
+}
+
+// The same, by a view of the core's tree.
+fn put_next<W: Windows, P: Proposer>(
+    alloc: Global,
+    core: &mut Core,
+    task: &Task,
+    windows: &mut W,
     nodes: u32,
     proposer: &mut P,
+    kept: &mut Kept,
+    pieces: &mut Vec<Piece>,
+) -> Result<bool, NoMemory>
+    requires few { length core.old.task.facts ≤ 262_144 }
+    requires task { task.now ≡ core.old.task }
+    requires kept { AreTrue core.old.task nodes kept.old }
+    ensures adds { Adds is_replacement core.old core.new }
+    ensures kept { AreTrue core.old.task nodes kept.new }
+    ensures walks { OnOk result (Walks core.old core.new nodes (W.left windows.old) (W.left windows.new) pieces.old.items pieces.new.items) }
+    ensures fewer { IfOk result (λ grown. grown ≡ true → length (W.left windows.new) < length (W.left windows.old)) }
+    ensures none { IfOk result (λ grown. grown ≡ false → W.left windows.new ≡ []) }
+{
+    core.keeps();
+    let tree = core.tree().try_copy(alloc)?;
+    let posing = Posing::of(alloc, task, &tree)?;
+    let view = View {
+        task,
+        posing,
+        nodes,
+    };
+    put_pieces(alloc, core, &view, windows, proposer, kept, pieces)
+}
+
+// A piece for each window, in their order, by a copy of the core's task.
+fn put_all<W: Windows, P: Proposer>(
+    alloc: Global,
+    core: &mut Core,
+    task: &Task,
+    windows: &mut W,
+    nodes: u32,
+    proposer: &mut P,
+    kept: &mut Kept,
 ) -> Result<Vec<Piece>, NoMemory>
     requires few { length core.old.task.facts ≤ 262_144 }
+    requires task { task.now ≡ core.old.task }
+    requires kept { AreTrue core.old.task nodes kept.old }
     ensures adds { Adds is_replacement core.old core.new }
-    ensures pieces { IfOk result (λ ps. ArePieces core.old core.new nodes windows.now ps.items) }
+    ensures kept { AreTrue core.old.task nodes kept.new }
+    ensures pieces { IfOk result (λ ps. ArePieces core.old core.new nodes (W.left windows.old) ps.items) }
 {
     let mut pieces = Vec::new(alloc);
-    for window in windows {
-        pieces.push(piece_of(alloc, core, window, nodes, proposer)?)?;
-    }
+    while put_next(
+        alloc,
+        core,
+        task,
+        windows,
+        nodes,
+        proposer,
+        kept,
+        &mut pieces,
+    )? {}
     Ok(pieces)
+}
+
+// A piece for each window, in their order.
+pub(crate) fn pieces_of<W: Windows, P: Proposer>(
+    alloc: Global,
+    core: &mut Core,
+    windows: &mut W,
+    nodes: u32,
+    proposer: &mut P,
+    kept: &mut Kept,
+) -> Result<Vec<Piece>, NoMemory>
+    requires few { length core.old.task.facts ≤ 262_144 }
+    requires kept { AreTrue core.old.task nodes kept.old }
+    ensures adds { Adds is_replacement core.old core.new }
+    ensures kept { AreTrue core.old.task nodes kept.new }
+    ensures pieces { IfOk result (λ ps. ArePieces core.old core.new nodes (W.left windows.old) ps.items) }
+{
+    let task = core.task().try_copy(alloc)?;
+    put_all(alloc, core, &task, windows, nodes, proposer, kept)
 }
 
 /// A round over the windows by one worker, the first of the crew. The core is always given back; where pieces are given, there is
@@ -149,6 +279,15 @@ pub fn round_alone<P: Proposer>(
     ensures pieces { IfOk result.pieces (λ ps. IsRound core windows.now setup.now.nodes result.core ps.items) }
 {
     let mut core = core;
-    let pieces = pieces_of(alloc, &mut core, windows, setup.nodes, &mut crew[0]);
+    let mut kept = Kept::new(alloc);
+    let mut listed = Listed { rest: windows };
+    let pieces = pieces_of(
+        alloc,
+        &mut core,
+        &mut listed,
+        setup.nodes,
+        &mut crew[0],
+        &mut kept,
+    );
     Round { core, pieces }
 }

@@ -4,14 +4,15 @@ ghost use Rattle.bd_tight.specs.Candidates.{IsTight};
 ghost use Rattle.plan_core.specs.Core.{CoreView, is_replacement};
 ghost use Rattle.plan_rebuild.specs.Grown.{Adds, Grows};
 ghost use Rattle.plan_rebuild.specs.Rebuilds.{GrowsRightly, closed};
-ghost use Rattle.bd_workers.specs.Inner.{IsLeft, end_of};
+ghost use Rattle.bd_workers.specs.Inner.{AreTrue, IsLeft, end_of};
 ghost use Rattle.bd_workers.specs.Turn.{IsEnd, ends_in_replacement};
 
+use crate::keeping::Kept;
 use crate::parts::{Setup, Turn};
 use crate::rounds::pieces_of;
 use bd_base::NoMemory;
 use bd_pieces::{End, Piece, Proposer};
-use bd_window::family;
+use bd_window::FamilyWalk;
 use plan_core::{Core, Offer};
 use plan_rebuild::{rebuild, tighten};
 use std::alloc::Global;
@@ -22,16 +23,20 @@ fn round<P: Proposer>(
     core: &mut Core,
     setup: &Setup,
     proposer: &mut P,
+    kept: &mut Kept,
 ) -> Result<Vec<Piece>, NoMemory>
     requires few { length core.old.task.facts ≤ 262_144 }
     requires free { closed core.old ≡ false }
     requires tight { IsTight core.old.task core.old.tree setup.now.span }
+    requires kept { AreTrue core.old.task setup.now.nodes kept.old }
+    ensures kept { AreTrue core.old.task setup.now.nodes kept.new }
     ensures adds { Adds is_replacement core.old core.new }
     ensures left { IfOk result (λ ps. (before : CoreView) → Grows before core.old → IsLeft before setup.now core.new ps.items) }
 {
     core.keeps();
-    let windows = family(alloc, core.tree(), setup.width)?;
-    let pieces = pieces_of(alloc, core, &windows, setup.nodes, proposer)?;
+    let tree = core.tree().try_copy(alloc)?;
+    let mut walk = FamilyWalk::of(alloc, &tree, setup.width)?;
+    let pieces = pieces_of(alloc, core, &mut walk, setup.nodes, proposer, kept)?;
     core.keeps();
     Ok(pieces)
 }
@@ -42,8 +47,11 @@ fn pieces_of_turn<P: Proposer>(
     core: &mut Core,
     setup: &Setup,
     proposer: &mut P,
+    kept: &mut Kept,
 ) -> Result<Vec<Piece>, NoMemory>
     requires few { length core.old.task.facts ≤ 262_144 }
+    requires kept { AreTrue core.old.task setup.now.nodes kept.old }
+    ensures kept { AreTrue core.old.task setup.now.nodes kept.new }
     ensures step { GrowsRightly core.old core.new }
     ensures left { IfOk result (λ ps. IsLeft core.old setup.now core.new ps.items) }
 {
@@ -55,7 +63,7 @@ fn pieces_of_turn<P: Proposer>(
     if core.closed() {
         return Ok(Vec::new(alloc));
     }
-    round(alloc, core, setup, proposer)
+    round(alloc, core, setup, proposer, kept)
 }
 
 fn is_replacement(offer: &Offer) -> bool
@@ -107,21 +115,24 @@ fn told_end(core: &Core, from: usize, pieces: &Result<Vec<Piece>, NoMemory>) -> 
     }
 }
 
-// One turn, with this proposer.
+// One turn, with this proposer and these verdicts.
 pub(crate) fn turn_with<P: Proposer>(
     alloc: Global,
     core: Core,
     setup: &Setup,
     proposer: &mut P,
+    kept: &mut Kept,
 ) -> Turn
-    requires { length core.task.facts ≤ 262_144 }
+    requires few { length core.task.facts ≤ 262_144 }
+    requires kept { AreTrue core.task setup.now.nodes kept.old }
+    ensures kept { AreTrue core.task setup.now.nodes kept.new }
     ensures step { GrowsRightly core result.core }
     ensures ends { IfOk result.pieces (λ ps. IsEnd core setup.now result.core ps.items result.end) }
     ensures memory { IfErr result.pieces (λ _. result.end ≡ None) }
 {
     let mut core = core;
     let from = core.history().len();
-    let pieces = pieces_of_turn(alloc, &mut core, setup, proposer);
+    let pieces = pieces_of_turn(alloc, &mut core, setup, proposer, kept);
     let end = told_end(&core, from, &pieces);
     Turn { core, pieces, end }
 }
@@ -136,5 +147,6 @@ pub fn turn_alone<P: Proposer>(alloc: Global, core: Core, setup: &Setup, crew: &
     ensures ends { IfOk result.pieces (λ ps. IsEnd core setup.now result.core ps.items result.end) }
     ensures memory { IfErr result.pieces (λ _. result.end ≡ None) }
 {
-    turn_with(alloc, core, setup, &mut crew[0])
+    let mut kept = Kept::new(alloc);
+    turn_with(alloc, core, setup, &mut crew[0], &mut kept)
 }

@@ -8,4 +8,4 @@ pub returns-in_err-verdict-clause-adds : goal.returns-in_err-verdict-clause-adds
 returns-in_err-verdict-clause-adds g c = adds_here is_replacement c.args.core.now
 
 pub returns-clause-piece : goal.returns-clause-piece
-returns-clause-piece g c = piece_judged c.args.core.now _ c.args.window.now c.args.nodes _ c.in_ok-verdict.verdict c.in_ok-reply.reply c.keeps.ensures c.in_ok-reply.ensures.adds.grows (ap length c.history.ensures) c.requires.stands c.in_ok-verdict.ensures.holds c.in_ok-reply.ensures.reply
+returns-clause-piece g c = piece_judged c.args.core.now _ c.args.window.now c.args.view.now.nodes _ c.in_ok-verdict.verdict c.in_ok-reply.reply c.keeps.ensures c.in_ok-reply.ensures.adds.grows (ap length c.history.ensures) c.requires.stands c.in_ok-verdict.ensures.holds c.in_ok-reply.ensures.reply

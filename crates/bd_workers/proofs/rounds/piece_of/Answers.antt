@@ -16,7 +16,7 @@ pub returns-in-Split-clause-adds : goal.returns-in-Split-clause-adds
 returns-in-Split-clause-adds g c = adds_here is_replacement c.args.core.now
 
 pub returns-in-Gone-clause-piece : goal.returns-in-Gone-clause-piece
-returns-in-Gone-clause-piece g c = piece_skipped c.args.core.now c.args.window.now c.args.nodes _ _ Gone c.keeps.ensures (ap length c.history.ensures) c.tree.ensures.tree c.in-Gone.ensures (λ e. gone_at e)
+returns-in-Gone-clause-piece g c = piece_skipped c.args.core.now c.args.window.now c.args.view.now.nodes _ _ Gone c.keeps.ensures (ap length c.history.ensures) c.tree.ensures.tree c.in-Gone.ensures (λ e. gone_at e)
 
 pub returns-in-Split-clause-piece : goal.returns-in-Split-clause-piece
-returns-in-Split-clause-piece g c = piece_skipped c.args.core.now c.args.window.now c.args.nodes _ _ Split c.keeps.ensures (ap length c.history.ensures) c.tree.ensures.tree c.in-Split.ensures (λ e. split_at e)
+returns-in-Split-clause-piece g c = piece_skipped c.args.core.now c.args.window.now c.args.view.now.nodes _ _ Split c.keeps.ensures (ap length c.history.ensures) c.tree.ensures.tree c.in-Split.ensures (λ e. split_at e)

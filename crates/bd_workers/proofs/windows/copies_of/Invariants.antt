@@ -1,5 +1,5 @@
 use Rattle.std.proofs.Common.{◌≡◌, take}
-use Rattle.bd_workers.proofs.offering.copies_of.Given as goal
+use Rattle.bd_workers.proofs.windows.copies_of.Given as goal
 
 abbrev pub invariant-loop-node : goal.invariant-loop-node
 invariant-loop-node l = l.copies.items ≡ take l.node-index l.nodes
