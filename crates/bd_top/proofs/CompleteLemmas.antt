@@ -119,7 +119,8 @@ module _ (words : List (List ℕ)) (tells : List ℕ → Told) (script : Script)
     no_fault : (out notes : Taken) (run : Option RunRecord) → IsFaultless out.faults out.faults_after → IsFaultless notes.faults notes.faults_after → HasWriteFault words tells out notes run → ⊥
     no_fault out notes None quiet still h = quiet h.printed.failed
     no_fault out notes (Some run) quiet still (inl h) = no_failure out notes quiet still h.failed
-    no_fault out notes (Some run) quiet still (inr h) = quiet h.printed.failed
+    no_fault out notes (Some run) quiet still (inr (inl h)) = quiet h.printed.failed
+    no_fault out notes (Some run) quiet still (inr (inr h)) = quiet h.printed.failed
 
     pub complete : (out notes : Taken) (why : Status) (run : Option RunRecord) → IsFaultless out.faults out.faults_after → IsFaultless notes.faults notes.faults_after →
         Ends words tells c out notes why run → IsDoneOrNoMemory why

@@ -16,10 +16,12 @@ use Rattle.run_texts.specs.declared.putting.Stop.TheVariants as stop
 use Rattle.bd_top.specs.declared.status.Status.{Status}
 use Rattle.bd_top.specs.declared.status.Status.TheVariants as status
 use Rattle.bd_top.specs.Deorder.{IsDeorderRun, IsKnown, Loosens, TellsTree, told_tree}
+use Rattle.bd_top.specs.Plans.{IsCheckedPlan}
 use Rattle.bd_top.specs.Prepared.{LeadToTask, NamesTexts}
 use Rattle.run_texts.specs.Taken.{Puts, Taken, IsSilent}
 use Rattle.bd_top.specs.Run.{Ends, status_by}
-use Rattle.bd_top.specs.Words.{span_asked}
+use Rattle.bd_top.specs.declared.purpose.Purpose.TheVariants as purpose
+use Rattle.bd_top.specs.Words.{purpose_asked}
 
 abbrev passed : Option (Limit × ℕ)
 passed = Some (limits.Steps, 2_001)
@@ -51,35 +53,32 @@ module _ (words : List (List ℕ)) (tells : List ℕ → Told) (c : Counts) (tas
       let r = ready_texts task plan h.holds.cost (tells h.names.domain) (tells h.names.problem) (tells h.names.plan) c h.holds.leads in
       known_plan r.d r.p r.q task plan r.valid
 
-  module _ (span : ℕ) (asked : span_asked words ≡ Some span) (out notes : Taken) (silent : IsSilent notes) where
+  abbrev pub plan_checked : IsCheckedPlan words tells h.holds.cost
+  plan_checked =
+      let r = ready_texts task plan h.holds.cost (tells h.names.domain) (tells h.names.problem) (tells h.names.plan) c h.holds.leads in
+      record {
+        names = h.names;
+        named = h.named;
+        domain = r.d;
+        problem = r.p;
+        plan = r.q;
+        domain_told = r.domain_told;
+        problem_told = r.problem_told;
+        plan_told = r.plan_told;
+        task = task;
+        list = plan;
+        valid = r.valid;
+        costs = r.costs;
+      }
+
+  module _ (span : ℕ) (asked : purpose_asked words ≡ Some (purpose.Deorder span)) (out notes : Taken) (silent : IsSilent notes) where
     deorder_run : (run : RunRecord) → Loosens task plan span run → IsDeorderRun words tells run
-    deorder_run run l =
-        let r = ready_texts task plan h.holds.cost (tells h.names.domain) (tells h.names.problem) (tells h.names.plan) c h.holds.leads in
-        record {
-          span = span;
-          asked = asked;
-          cost = h.holds.cost;
-          checked = record {
-            names = h.names;
-            named = h.named;
-            domain = r.d;
-            problem = r.p;
-            plan = r.q;
-            domain_told = r.domain_told;
-            problem_told = r.problem_told;
-            plan_told = r.plan_told;
-            task = task;
-            list = plan;
-            valid = r.valid;
-            costs = r.costs;
-          };
-          loosens = l;
-        }
+    deorder_run run l = record { span = span; asked = asked; cost = h.holds.cost; checked = plan_checked; loosens = l }
 
     pub ends_deordered : (st : Status) (run : Option RunRecord) → TellsTree task plan span out st run → Ends words tells c out notes st run
-    ends_deordered status.Done (Some run) t = inr (record { is_run = deorder_run run t.0; printed = t.1; noted = silent })
-    ends_deordered status.WriteFault (Some run) t = inr (record { is_run = deorder_run run t.0; printed = t.1; noted = silent })
-    ends_deordered status.NoMemory (Some run) t = inr (record { is_run = deorder_run run t.0; nothing = t.1; noted = silent })
+    ends_deordered status.Done (Some run) t = inr (inl (record { is_run = deorder_run run t.0; printed = t.1; noted = silent }))
+    ends_deordered status.WriteFault (Some run) t = inr (inl (record { is_run = deorder_run run t.0; printed = t.1; noted = silent }))
+    ends_deordered status.NoMemory (Some run) t = inr (inl (record { is_run = deorder_run run t.0; nothing = t.1; noted = silent }))
     ends_deordered status.NoMemory None t = (t, silent)
     ends_deordered st run t = absurd t
 

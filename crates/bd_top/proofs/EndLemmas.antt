@@ -1,9 +1,8 @@
 -- How the run of a list of offers ends, from how they were made and from its summary.
-use Rattle.std.proofs.Common.{◌≡◌, ◌⊎◌, inl, inr, ℕ, ◌≤◌, List, [], ◌∷◌, ◌++◌, length, Option, Some, None, Result, Ok, Err, IfErr, IfOk, if◌then◌else◌, refl, sym, ap, ◌∙◌, subst, arith}
-use Rattle.std.proofs.Math.Seq.{take-length}
+use Rattle.std.proofs.Common.{◌≡◌, ◌⊎◌, inl, inr, ℕ, ◌≤◌, List, [], ◌∷◌, ◌++◌, length, Option, Some, None, Result, Ok, Err, IfErr, IfOk, if◌then◌else◌, refl, sym, ap, ◌∙◌, subst}
 use Rattle.std.proofs.lemmas.List.{append-nil}
 use Rattle.std.proofs.lemmas.Bool.{eq-eqb}
-use Rattle.bd_base.specs.Causes.{Rose, TakesPart, appended}
+use Rattle.bd_base.specs.Causes.{TakesPart, appended}
 use Rattle.bd_base.specs.Shelf.{Told}
 use Rattle.bd_base.proofs.PutLemmas.{appended-append, TakesPart-after, TakesPart-longer}
 use Rattle.bd_task.specs.TaskView.{TaskView}
@@ -33,6 +32,15 @@ finished_by done run out stop.NoMemory st ended e is h = subst (λ z. Finishes (
 pub finish_stop : (made : Result (Unit {0}) Stop) (done : Unit {0}) (run : RunRecord) (out : Taken) (why : Stop) (st : Status) (ended : Option RunRecord) → made ≡ Ok done → st ≡ status_of why → ended ≡ Some run →
     Puts (summary_of run) out (Err why) → Finishes made run out st ended
 finish_stop made done run out why st ended ok e is h = subst (λ z. Finishes z run out st ended) (sym ok) (finished_by done run out why st ended e is h)
+
+-- the run is kept, however it finishes
+pub kept : (result : Result (Unit {0}) Stop) (r : RunRecord) (out : Taken) (st : Status) (e : Option RunRecord) → Finishes result r out st e → e ≡ Some r
+kept (Ok done) r out status.Done e h = h.0
+kept (Ok done) r out status.WriteFault e h = h.0
+kept (Ok done) r out status.NoMemory e h = h.0
+kept (Err stop.WriteFault) r out status.WriteFault e h = h.0
+kept (Err stop.NoMemory) r out status.NoMemory e h = h.0
+kept result r out st e h = absurd h
 
 -- offers leave the task, the start tree and the stop number
 makes_opens : (offers : List Offer) (replies : List (Result ℕ Refusal)) (core last : CoreView) → Makes core offers replies last → OpensOn core.task core.start core.stop last
@@ -114,19 +122,11 @@ module _ (core last : CoreView) (offers : List Offer) (replies : List (Result �
       (is_run, subst (λ z. TakesPart t0 z (printed_of run)) (sym h.1) (out_part (closing_by run.end (summary_of run)) o), notes_part n)
   by_status result st all o n c h = absurd h
 
-  kept : (result : Result (Unit {0}) Stop) (r : RunRecord) (st : Status) (e : Option RunRecord) → Finishes result r out2 st e → e ≡ Some r
-  kept (Ok done) r status.Done e h = h.0
-  kept (Ok done) r status.WriteFault e h = h.0
-  kept (Ok done) r status.NoMemory e h = h.0
-  kept (Err stop.WriteFault) r status.WriteFault e h = h.0
-  kept (Err stop.NoMemory) r status.NoMemory e h = h.0
-  kept result r st e h = absurd h
-
   pub replays : (result : Result (Unit {0}) Stop) (r : RunRecord) (st : Status) (e : Option RunRecord) → r ≡ record_of offers replies last → IfOk result (λ (u : Unit {0}). length replies ≡ length offers) →
       FollowsSo (betters_of core) (betters_of last) out1 result → FollowsSo [] (reply_texts core.task 1 replies) notes result → IfErr result (λ why. IsCause out1 notes why) → Finishes result r out2 st e →
       Replays core offers out notes st e
   replays result r st e is all o n c h =
-      let same : e ≡ Some run = kept result r st e h ∙ ap Some is in
+      let same : e ≡ Some run = kept result r out2 st e h ∙ ap Some is in
       let done : Finishes result run out2 st (Some run) = subst (λ z. Finishes result run out2 st z) same (subst (λ z. Finishes result z out2 st e) is h) in
       subst (λ z. Replays core offers out notes st z) (sym same) (by_status result st all o n c done)
 

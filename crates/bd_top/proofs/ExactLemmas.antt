@@ -185,7 +185,8 @@ module _ (words : List (List ℕ)) (tells : List ℕ → Told) where
   module _ (c : Counts) (out notes : Taken) where
     of_run : (run : Option RunRecord) → IsAllDone words tells out notes run → IsExact words tells status.Done
     of_run None h = by_texts h.checked.names h.checked.named status.Done done_usage (check_done words tells h.cost h.checked)
-    of_run (Some run) (inr h) = by_texts h.is_run.checked.names h.is_run.checked.named status.Done done_usage (check_done words tells h.is_run.cost h.is_run.checked)
+    of_run (Some run) (inr (inl h)) = by_texts h.is_run.checked.names h.is_run.checked.named status.Done done_usage (check_done words tells h.is_run.cost h.is_run.checked)
+    of_run (Some run) (inr (inr h)) = by_texts h.is_run.checked.names h.is_run.checked.named status.Done done_usage (check_done words tells h.is_run.cost h.is_run.checked)
     of_run (Some run) (inl h) = by_script h.recorded.ready.name h.recorded.ready.named status.Done done_usage (done_exact h.recorded.script h.recorded.ready)
 
     of_invalid : (b : Broken) (line : List ℕ) → Names words (λ name. IsNamedRefusal name (tells name) c (status.PlanInvalid b) line) ⊎ NamesTexts words (λ names. IsTextsRefusal names tells c (status.PlanInvalid b) line) →

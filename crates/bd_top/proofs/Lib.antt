@@ -10,4 +10,5 @@ pub mod UsableLemmas
 pub mod ReplayLemmas
 pub mod EndLemmas
 pub mod DeorderLemmas
+pub mod ImproveLemmas
 pub mod WordsLemmas

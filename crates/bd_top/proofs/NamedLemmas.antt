@@ -79,4 +79,5 @@ module _ (told : Told) (c : Counts) (v : Vec ℕ Global) (t : List ℕ) (same : 
   named name (prepared.Refused why line) h = named_refusal name why line h
   named name (prepared.Valid cost) h = absurd h
   named name (prepared.Plan task plan span) h = absurd h
+  named name (prepared.Improvable task plan numbers) h = absurd h
   named name prepared.NoMemory h = tt

@@ -2,7 +2,7 @@
 use Rattle.std.proofs.Common.{◌≡◌, inl, inr, ℕ, ◌+◌, ◌<◌, ◌≤◌, List, [], ◌∷◌, ◌++◌, length, get_or, Option, Result, Ok, Err, IfErr, refl, sym, ap, ◌∙◌, subst, length-append, arith}
 use Rattle.std.proofs.lemmas.List.{append-nil}
 use Rattle.bd_task.specs.TaskView.{TaskView}
-use Rattle.plan_core.specs.Core.{CoreView, accepted}
+use Rattle.plan_core.specs.Core.{CoreView}
 use Rattle.plan_core.specs.Law.{after_reply}
 use Rattle.plan_core.specs.Replies.{Replies, TellsFact}
 use Rattle.plan_core.specs.declared.offer.Offer.{Offer}

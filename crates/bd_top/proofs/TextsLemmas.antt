@@ -1,5 +1,5 @@
 -- What is prepared of three texts, and how the check of a plan ends.
-use Rattle.std.proofs.Common.{◌≡◌, ◌⊎◌, inl, inr, ℕ, Bool, List, Option, None, Result, Ok, Err, OnOk, OnErr, refl, sym, subst}
+use Rattle.std.proofs.Common.{◌≡◌, ◌⊎◌, inl, inr, ℕ, Bool, List, Option, Some, None, Result, Ok, Err, OnOk, OnErr, refl, sym, subst}
 use Rattle.bd_base.specs.Causes.{HasCause, TakesPart, appended}
 use Rattle.bd_base.specs.Shelf.{Told}
 use Rattle.task_inputs.specs.declared.answers.Inputs.{Inputs}
@@ -17,7 +17,9 @@ use Rattle.run_texts.specs.declared.putting.Stop.TheVariants as stop
 use Rattle.run_texts.specs.Taken.{Puts, Taken, IsSilent, Receives, IsCut}
 use Rattle.bd_top.specs.Texts.{valid_line}
 use Rattle.bd_top.specs.Prepared.{IsRefusal, Tells, NamesTexts, TextsLead, LeadToPlan, IsPreparedOf, IsReadFault, IsNamedRefusal, PreparesNamed, PreparesTexts}
-use Rattle.bd_top.specs.Words.{span_asked}
+use Rattle.bd_top.specs.declared.purpose.Purpose.{Purpose}
+use Rattle.bd_top.specs.declared.purpose.Purpose.TheVariants as purpose
+use Rattle.bd_top.specs.Words.{purpose_asked}
 use Rattle.command_words.specs.Asked.{Names as TextNames}
 use Rattle.bd_top.specs.Plans.{IsCheckedPlan}
 use Rattle.bd_top.specs.Run.{Ends, Checks, IsRefused, status_by}
@@ -29,11 +31,14 @@ named_unread name told c missing prepared.NoMemory h un = tt
 named_unread name told c missing (prepared.Ready script) h un = absurd h
 named_unread name told c missing (prepared.Valid cost) h un = absurd h
 named_unread name told c missing (prepared.Plan task plan span) h un = absurd h
+named_unread name told c missing (prepared.Improvable task plan numbers) h un = absurd h
 
-module _ (span : Option ℕ) (names : TextNames) (tells : List ℕ → Told) (c : Counts) where
-  pub prepares : (result : Inputs) (p : Prepared) → Unless result (TextsLead names tells c result) → IsPreparedOf span names result p → PreparesTexts span names tells c p
+module _ (aim : Purpose) (names : TextNames) (tells : List ℕ → Told) (c : Counts) where
+  pub prepares : (result : Inputs) (p : Prepared) → Unless result (TextsLead names tells c result) → IsPreparedOf aim names result p → PreparesTexts aim names tells c p
   prepares (inputs.Ready task plan cost) (prepared.Valid same) h is = (is.0, record { task = task; plan = plan; leads = subst (λ z. TextsLead names tells c (inputs.Ready task plan z)) (sym is.1) h })
   prepares (inputs.Ready task plan cost) (prepared.Plan t list n) h is =
+      (is.0, record { cost = cost; leads = subst (λ z. TextsLead names tells c (inputs.Ready z list cost)) (sym is.1) (subst (λ z. TextsLead names tells c (inputs.Ready task z cost)) (sym is.2) h) })
+  prepares (inputs.Ready task plan cost) (prepared.Improvable t list numbers) h is =
       (is.0, record { cost = cost; leads = subst (λ z. TextsLead names tells c (inputs.Ready z list cost)) (sym is.1) (subst (λ z. TextsLead names tells c (inputs.Ready task z cost)) (sym is.2) h) })
   prepares (inputs.Unread part missing) (prepared.Refused why line) h is = record { result = inputs.Unread part missing; leads = h; told = is }
   prepares (inputs.Refused part place cause) (prepared.Refused why line) h is = record { result = inputs.Refused part place cause; leads = h; told = is }
@@ -61,7 +66,7 @@ checked_plan words tells c cost h =
       costs = r.costs;
     }
 
-pub ends_checked : (words : List (List ℕ)) (tells : List ℕ → Told) (c : Counts) (cost : ℕ) (out notes : Taken) (st : Status) (run : Option RunRecord) → span_asked words ≡ None → NamesTexts words (λ names. LeadToPlan names tells c cost) → IsSilent notes → Checks cost out st run →
+pub ends_checked : (words : List (List ℕ)) (tells : List ℕ → Told) (c : Counts) (cost : ℕ) (out notes : Taken) (st : Status) (run : Option RunRecord) → purpose_asked words ≡ Some purpose.Check → NamesTexts words (λ names. LeadToPlan names tells c cost) → IsSilent notes → Checks cost out st run →
     Ends words tells c out notes st run
 ends_checked words tells c cost out notes status.Done None only h silent k = record { checks = only; cost = cost; checked = checked_plan words tells c cost h; printed = k; noted = silent }
 ends_checked words tells c cost out notes status.WriteFault None only h silent k = record { checks = only; cost = cost; checked = checked_plan words tells c cost h; printed = k; noted = silent }

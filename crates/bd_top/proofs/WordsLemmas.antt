@@ -1,12 +1,16 @@
 -- What is prepared of words, from what is prepared of what they name.
 use Rattle.std.proofs.Common.{◌≡◌, ◌∙◌, ap, inl, inr, ℕ, List, Option, Some, None, subst}
-use Rattle.std.specs.Prelude.{option_and_then, option_map}
+use Rattle.std.specs.Prelude.{option_map}
 use Rattle.bd_base.specs.Shelf.{Told}
 use Rattle.task_inputs.specs.declared.answers.Inputs.{Inputs}
 use Rattle.task_inputs.specs.declared.answers.Inputs.TheVariants as inputs
 use Rattle.task_inputs.specs.Reads.{Counts}
 use Rattle.command_words.specs.Asked.{Asks, Names as TextNames}
+use Rattle.command_words.specs.Range.{AreInRange, AreNumbersInRange}
+use Rattle.command_words.specs.declared.request.Numbers.{Numbers}
 use Rattle.command_words.specs.declared.request.Request.{Request}
+use Rattle.bd_top.specs.declared.purpose.Purpose.{Purpose}
+use Rattle.bd_top.specs.declared.purpose.Purpose.TheVariants as purpose
 use Rattle.bd_top.specs.declared.prepare.Prepared.{Prepared}
 use Rattle.bd_top.specs.declared.prepare.Prepared.TheVariants as prepared
 use Rattle.bd_top.specs.declared.status.Status.{Status}
@@ -32,9 +36,10 @@ module _ (words : List (List ℕ)) (tells : List ℕ → Told) (c : Counts) wher
     script_prepared (prepared.Refused why line) h = script_refusal why line h
     script_prepared (prepared.Valid cost) h = absurd h
     script_prepared (prepared.Plan task plan span) h = absurd h
+    script_prepared (prepared.Improvable task plan numbers) h = absurd h
     script_prepared prepared.NoMemory h = tt
 
-  module _ (names : TextNames) (span : Option ℕ) (asked : texts_asked words ≡ Some (names, span)) where
+  module _ (names : TextNames) (aim : Purpose) (asked : texts_asked words ≡ Some (names, aim)) (ranges : (numbers : Numbers) → aim ≡ purpose.Improve numbers → AreNumbersInRange numbers) where
     usage_untold : (r : Inputs) (line : List ℕ) → Tells names r status.Usage line → ⊥
     usage_untold (inputs.Unread p missing) line h =
         let bad = h.0 in
@@ -52,10 +57,10 @@ module _ (words : List (List ℕ)) (tells : List ℕ → Told) (c : Counts) wher
     usage_untold inputs.NoMemory line h = h
 
     named : option_map (λ a. a.0) (texts_asked words) ≡ Some names
-    named = ap (λ (o : Option (TextNames × Option ℕ)). option_map (λ a. a.0) o) asked
+    named = ap (λ (o : Option (TextNames × Purpose)). option_map (λ a. a.0) o) asked
 
-    spans : option_and_then (λ a. a.1) (texts_asked words) ≡ span
-    spans = ap (λ (o : Option (TextNames × Option ℕ)). option_and_then (λ a. a.1) o) asked
+    aims : option_map (λ a. a.1) (texts_asked words) ≡ Some aim
+    aims = ap (λ (o : Option (TextNames × Purpose)). option_map (λ a. a.1) o) asked
 
     texts_refusal : (why : Status) (line : List ℕ) → IsTextsRefusal names tells c why line → IsRefusal words tells c why line
     texts_refusal status.Usage line h = absurd (usage_untold h.result line h.told)
@@ -67,22 +72,39 @@ module _ (words : List (List ℕ)) (tells : List ℕ → Told) (c : Counts) wher
     texts_refusal (status.OverLimit l count) line h = inr (record { names = names; named = named; holds = h })
     texts_refusal status.NoMemory line h = inr (record { names = names; named = named; holds = h })
 
-    pub texts_prepared : (p : Prepared) → PreparesTexts span names tells c p → Prepares words tells c p
+    pub texts_prepared : (p : Prepared) → PreparesTexts aim names tells c p → Prepares words tells c p
     texts_prepared (prepared.Ready script) h = absurd h
-    texts_prepared (prepared.Valid cost) h = (spans ∙ h.0, record { names = names; named = named; holds = h.1 })
-    texts_prepared (prepared.Plan task plan n) h = (spans ∙ h.0, record { names = names; named = named; holds = h.1 })
+    texts_prepared (prepared.Valid cost) h = (aims ∙ ap Some h.0, record { names = names; named = named; holds = h.1 })
+    texts_prepared (prepared.Plan task plan n) h = (aims ∙ ap Some h.0, record { names = names; named = named; holds = h.1 })
+    texts_prepared (prepared.Improvable task plan numbers) h = (aims ∙ ap Some h.0, record { names = names; named = named; holds = h.1 }, ranges numbers h.0)
     texts_prepared (prepared.Refused why line) h = texts_refusal why line h
     texts_prepared prepared.NoMemory h = tt
 
   pub misused_prepared : NamesNone words → (p : Prepared) → IsUsage p → Prepares words tells c p
   misused_prepared none (prepared.Refused status.Usage line) h =
-      (none.script, ap (λ (o : Option (TextNames × Option ℕ)). option_map (λ a. a.0) o) none.texts, h)
+      (none.script, ap (λ (o : Option (TextNames × Purpose)). option_map (λ a. a.0) o) none.texts, h)
   misused_prepared none prepared.NoMemory h = tt
   misused_prepared none p h = absurd h
 
 -- what is asked, where it is told which request it is
 pub asks_this : (words : List (List ℕ)) (o : Option Request) (r s : Request) → o ≡ Some r → r ≡ s → Asks words o → Asks words (Some s)
 asks_this words o r s e f h = subst (λ (x : Option Request). Asks words x) (e ∙ ap (λ (x : Request). Some x) f) h
+
+pub ranges_this : (o : Option Request) (r s : Request) → o ≡ Some r → r ≡ s → AreInRange o → AreInRange (Some s)
+ranges_this o r s e f h = subst (λ (x : Option Request). AreInRange x) (e ∙ ap (λ (x : Request). Some x) f) h
+
+-- numbers are asked for an improvement alone
+pub no_check : (numbers : Numbers) → purpose.Check ≡ purpose.Improve numbers → AreNumbersInRange numbers
+no_check numbers e = absurd cc
+
+pub no_deorder : (span : ℕ) (numbers : Numbers) → purpose.Deorder span ≡ purpose.Improve numbers → AreNumbersInRange numbers
+no_deorder span numbers e = absurd cc
+
+pub these_numbers : (asked numbers : Numbers) → AreNumbersInRange asked → purpose.Improve asked ≡ purpose.Improve numbers → AreNumbersInRange numbers
+these_numbers asked numbers h e = subst AreNumbersInRange (same asked numbers e) h
+  where
+    same : (a b : Numbers) → purpose.Improve a ≡ purpose.Improve b → a ≡ b
+    same a b e = cc
 
 pub asks_none : (words : List (List ℕ)) (o : Option Request) → o ≡ None → Asks words o → Asks words None
 asks_none words o e h = subst (λ (x : Option Request). Asks words x) e h

@@ -13,7 +13,8 @@ use Rattle.bd_top.specs.declared.status.Status.{Status}
 use Rattle.bd_top.specs.declared.status.Status.TheVariants as status
 use Rattle.bd_top.specs.Plans.{IsCheckedPlan}
 use Rattle.run_texts.specs.Taken.{Taken, IsSilent, Receives, IsCut}
-use Rattle.bd_top.specs.Words.{span_asked}
+use Rattle.bd_top.specs.declared.purpose.Purpose.TheVariants as purpose
+use Rattle.bd_top.specs.Words.{purpose_asked}
 
 -- the record of a core whose tree is tight
 abbrev pub tight_record : CoreView → RunRecord
@@ -37,7 +38,7 @@ pub record Loosens (task : TaskView) (list : List ℕ) (span : ℕ) (run : RunRe
 -- the words ask to deorder the plan of three texts, which give a task and a valid plan, and the run loosens it at the span of the words
 pub record IsDeorderRun (words : List (List ℕ)) (tells : List ℕ → Told) (run : RunRecord) : Type 0 where
   pub span : ℕ
-  pub asked : span_asked words ≡ Some span
+  pub asked : purpose_asked words ≡ Some (purpose.Deorder span)
   pub cost : ℕ
   pub checked : IsCheckedPlan words tells cost
   pub loosens : Loosens checked.task checked.list span run
@@ -64,7 +65,7 @@ pub record IsTreeUntold (words : List (List ℕ)) (tells : List ℕ → Told) (o
   pub nothing : IsSilent out
   pub noted : IsSilent notes
 
--- what deordering asks of a list of a task
+-- what is known of a list of a task that is to be deordered or improved
 pub record IsKnown (task : TaskView) (list : List ℕ) : Type 0 where
   pub in_range : All (λ a. a < length task.actions) list
   pub few : length list ≤ 2_000

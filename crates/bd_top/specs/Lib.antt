@@ -1,4 +1,5 @@
 pub mod Deorder
+pub mod Improve
 pub mod Plans
 pub mod Prepared
 pub mod Replay

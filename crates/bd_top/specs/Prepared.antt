@@ -1,5 +1,5 @@
 -- What the words and the texts that they name lead to: a script that is ready to run, or a refusal with its line.
-use Rattle.std.specs.Prelude.{◌≡◌, ◌⊎◌, ℕ, ◌<◌, ◌≤◌, Bool, true, false, All, List, length, Some, None, Err, unwrap_or, Option}
+use Rattle.std.specs.Prelude.{◌≡◌, ◌⊎◌, ℕ, ◌<◌, ◌≤◌, Bool, true, false, All, List, length, Some, None, Err, unwrap_or}
 use Rattle.bd_base.specs.Shelf.{Told}
 use Rattle.bd_base.specs.declared.text_err.Cause.{Cause}
 use Rattle.bd_base.specs.declared.text_err.Cause.TheVariants as causes
@@ -33,7 +33,10 @@ use Rattle.bd_top.specs.declared.status.File.TheVariants as file
 use Rattle.bd_top.specs.declared.status.Status.{Status}
 use Rattle.bd_top.specs.declared.status.Status.TheVariants as status
 use Rattle.bd_top.specs.Texts.{invalid_line, refused_line, over_line, unread_line}
-use Rattle.bd_top.specs.Words.{script_named, span_asked, texts_named}
+use Rattle.command_words.specs.Range.{AreNumbersInRange}
+use Rattle.bd_top.specs.declared.purpose.Purpose.{Purpose}
+use Rattle.bd_top.specs.declared.purpose.Purpose.TheVariants as purpose
+use Rattle.bd_top.specs.Words.{purpose_asked, script_named, texts_named}
 use Rattle.command_words.specs.Asked.{Names as TextNames}
 
 -- the tree that a script starts from: its own, where it has one, else the chain of its plan
@@ -214,6 +217,7 @@ PreparesScript script (prepared.Refused (status.TextRefused file.Script place ca
 PreparesScript script (prepared.Refused other line) = ⊥
 PreparesScript script (prepared.Valid cost) = ⊥
 PreparesScript script (prepared.Plan task plan span) = ⊥
+PreparesScript script (prepared.Improvable task plan numbers) = ⊥
 PreparesScript script prepared.NoMemory = Unit {0}
 
 -- what is prepared is what there is; want of memory is free
@@ -222,6 +226,7 @@ PreparesText t (prepared.Ready script) = IsReadyText t script
 PreparesText t (prepared.Refused why line) = IsTextRefusal t why line
 PreparesText t (prepared.Valid cost) = ⊥
 PreparesText t (prepared.Plan task plan span) = ⊥
+PreparesText t (prepared.Improvable task plan numbers) = ⊥
 PreparesText t prepared.NoMemory = Unit {0}
 
 abbrev pub PreparesNamed : List ℕ → Told → Counts → Prepared → Type 0
@@ -229,23 +234,26 @@ PreparesNamed name told c (prepared.Ready script) = WasRead told (λ t. IsReadyT
 PreparesNamed name told c (prepared.Refused why line) = IsNamedRefusal name told c why line
 PreparesNamed name told c (prepared.Valid cost) = ⊥
 PreparesNamed name told c (prepared.Plan task plan span) = ⊥
+PreparesNamed name told c (prepared.Improvable task plan numbers) = ⊥
 PreparesNamed name told c prepared.NoMemory = Unit {0}
 
--- what is prepared of three texts, whose plan is to be deordered at a span or only checked
-abbrev pub PreparesTexts : Option ℕ → TextNames → (List ℕ → Told) → Counts → Prepared → Type 0
-PreparesTexts span names tells c (prepared.Ready script) = ⊥
-PreparesTexts span names tells c (prepared.Valid cost) = (span ≡ None) × LeadToPlan names tells c cost
-PreparesTexts span names tells c (prepared.Plan task plan n) = (span ≡ Some n) × LeadToTask names tells c task plan
-PreparesTexts span names tells c (prepared.Refused why line) = IsTextsRefusal names tells c why line
-PreparesTexts span names tells c prepared.NoMemory = Unit {0}
+-- what is prepared of three texts, whose plan is there for a purpose
+abbrev pub PreparesTexts : Purpose → TextNames → (List ℕ → Told) → Counts → Prepared → Type 0
+PreparesTexts aim names tells c (prepared.Ready script) = ⊥
+PreparesTexts aim names tells c (prepared.Valid cost) = (aim ≡ purpose.Check) × LeadToPlan names tells c cost
+PreparesTexts aim names tells c (prepared.Plan task plan span) = (aim ≡ purpose.Deorder span) × LeadToTask names tells c task plan
+PreparesTexts aim names tells c (prepared.Improvable task plan numbers) = (aim ≡ purpose.Improve numbers) × LeadToTask names tells c task plan
+PreparesTexts aim names tells c (prepared.Refused why line) = IsTextsRefusal names tells c why line
+PreparesTexts aim names tells c prepared.NoMemory = Unit {0}
 
 -- what is prepared of what texts lead to
-abbrev pub IsPreparedOf : Option ℕ → TextNames → Inputs → Prepared → Type 0
-IsPreparedOf span names (inputs.Ready task plan cost) (prepared.Valid same) = (span ≡ None) × (same ≡ cost)
-IsPreparedOf span names (inputs.Ready task plan cost) (prepared.Plan t list n) = (span ≡ Some n) × (t ≡ task) × (list ≡ plan)
-IsPreparedOf span names result (prepared.Refused why line) = Tells names result why line
-IsPreparedOf span names result prepared.NoMemory = Unit {0}
-IsPreparedOf span names result other = ⊥
+abbrev pub IsPreparedOf : Purpose → TextNames → Inputs → Prepared → Type 0
+IsPreparedOf aim names (inputs.Ready task plan cost) (prepared.Valid same) = (aim ≡ purpose.Check) × (same ≡ cost)
+IsPreparedOf aim names (inputs.Ready task plan cost) (prepared.Plan t list span) = (aim ≡ purpose.Deorder span) × (t ≡ task) × (list ≡ plan)
+IsPreparedOf aim names (inputs.Ready task plan cost) (prepared.Improvable t list numbers) = (aim ≡ purpose.Improve numbers) × (t ≡ task) × (list ≡ plan)
+IsPreparedOf aim names result (prepared.Refused why line) = Tells names result why line
+IsPreparedOf aim names result prepared.NoMemory = Unit {0}
+IsPreparedOf aim names result other = ⊥
 
 -- the refusal of a text that couldn't be read
 abbrev pub IsReadFault : List ℕ → Bool → Prepared → Type 0
@@ -261,7 +269,9 @@ IsUsage other = ⊥
 
 abbrev pub Prepares : List (List ℕ) → (List ℕ → Told) → Counts → Prepared → Type 0
 Prepares words tells c (prepared.Ready script) = IsReady words tells script
-Prepares words tells c (prepared.Valid cost) = (span_asked words ≡ None) × NamesTexts words (λ names. LeadToPlan names tells c cost)
-Prepares words tells c (prepared.Plan task plan span) = (span_asked words ≡ Some span) × NamesTexts words (λ names. LeadToTask names tells c task plan)
+Prepares words tells c (prepared.Valid cost) = (purpose_asked words ≡ Some purpose.Check) × NamesTexts words (λ names. LeadToPlan names tells c cost)
+Prepares words tells c (prepared.Plan task plan span) = (purpose_asked words ≡ Some (purpose.Deorder span)) × NamesTexts words (λ names. LeadToTask names tells c task plan)
+Prepares words tells c (prepared.Improvable task plan numbers) =
+    (purpose_asked words ≡ Some (purpose.Improve numbers)) × NamesTexts words (λ names. LeadToTask names tells c task plan) × AreNumbersInRange numbers
 Prepares words tells c (prepared.Refused why line) = IsRefusal words tells c why line
 Prepares words tells c prepared.NoMemory = Unit {0}

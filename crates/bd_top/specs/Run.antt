@@ -28,13 +28,15 @@ use Rattle.task_inputs.specs.declared.answers.Part.{Part}
 use Rattle.task_inputs.specs.declared.answers.Inputs.TheVariants as inputs
 use Rattle.task_inputs.specs.Inputs.{outcome, IsValidPlan}
 use Rattle.bd_top.specs.Deorder.{IsTreeTold, IsTreeCut, IsTreeUntold}
+use Rattle.bd_top.specs.Improve.{IsImproveDone, IsImproveCut, IsImprovePart}
+use Rattle.bd_top.specs.declared.purpose.Purpose.TheVariants as purpose
 use Rattle.bd_top.specs.Plans.{IsCheckedPlan}
 use Rattle.bd_top.specs.Prepared.{IsReady, IsReadyText, IsRefusal, IsTextRefusal, start_of, file_by}
 use Rattle.bd_top.specs.Replay.{Makes, IsTold}
 use Rattle.run_texts.specs.Taken.{Taken, IsSilent, Receives, ReceivesPart, HasFailed, IsCut}
 use Rattle.run_texts.specs.Texts.{summary_of, printed_of, noted_of}
 use Rattle.bd_top.specs.Texts.{valid_line}
-use Rattle.bd_top.specs.Words.{script_named, span_asked, texts_named}
+use Rattle.bd_top.specs.Words.{purpose_asked, script_named, texts_named}
 use Rattle.command_words.specs.Asked.{Names as TextNames}
 
 -- a run ends with its script where every offer was made
@@ -92,7 +94,7 @@ pub record IsWriteFault (words : List (List ℕ)) (tells : List ℕ → Told) (o
 
 -- the plan was only checked, and `out` has received exactly its cost
 pub record IsChecked (words : List (List ℕ)) (tells : List ℕ → Told) (out notes : Taken) : Type 0 where
-  pub checks : span_asked words ≡ None
+  pub checks : purpose_asked words ≡ Some purpose.Check
   pub cost : ℕ
   pub checked : IsCheckedPlan words tells cost
   pub printed : Receives out (valid_line cost)
@@ -100,26 +102,26 @@ pub record IsChecked (words : List (List ℕ)) (tells : List ℕ → Told) (out 
 
 -- the plan was only checked, but `out` failed within its cost
 pub record IsCheckCut (words : List (List ℕ)) (tells : List ℕ → Told) (out notes : Taken) : Type 0 where
-  pub checks : span_asked words ≡ None
+  pub checks : purpose_asked words ≡ Some purpose.Check
   pub cost : ℕ
   pub checked : IsCheckedPlan words tells cost
   pub printed : IsCut out (valid_line cost)
   pub noted : IsSilent notes
 
--- all was done: a script was run, or a plan was checked or deordered
+-- all was done: a script was run, or a plan was checked, deordered or improved
 abbrev pub IsAllDone : List (List ℕ) → (List ℕ → Told) → Taken → Taken → Option RunRecord → Type 0
 IsAllDone words tells out notes None = IsChecked words tells out notes
-IsAllDone words tells out notes (Some run) = IsDone words tells out notes run ⊎ IsTreeTold words tells out notes run
+IsAllDone words tells out notes (Some run) = IsDone words tells out notes run ⊎ IsTreeTold words tells out notes run ⊎ IsImproveDone words tells out notes run
 
 -- a write failed: within a run, within the cost of a plan, or within the text of a tree
 abbrev pub HasWriteFault : List (List ℕ) → (List ℕ → Told) → Taken → Taken → Option RunRecord → Type 0
 HasWriteFault words tells out notes None = IsCheckCut words tells out notes
-HasWriteFault words tells out notes (Some run) = IsWriteFault words tells out notes run ⊎ IsTreeCut words tells out notes run
+HasWriteFault words tells out notes (Some run) = IsWriteFault words tells out notes run ⊎ IsTreeCut words tells out notes run ⊎ IsImproveCut words tells out notes run
 
 -- memory was wanting: the run was kept, or nothing was put
 abbrev pub IsOutOfMemory : List (List ℕ) → (List ℕ → Told) → Taken → Taken → Option RunRecord → Type 0
 IsOutOfMemory words tells out notes None = IsSilent out × IsSilent notes
-IsOutOfMemory words tells out notes (Some run) = IsPartly words tells out notes run ⊎ IsTreeUntold words tells out notes run
+IsOutOfMemory words tells out notes (Some run) = IsPartly words tells out notes run ⊎ IsTreeUntold words tells out notes run ⊎ IsImprovePart words tells out notes run
 
 -- the words and the texts lead to a refusal: nothing was put to `out`, its line to `notes`, or a first part of it where that failed, and there is no run
 pub record IsRefused (words : List (List ℕ)) (tells : List ℕ → Told) (c : Counts) (out notes : Taken) (why : Status) (run : Option RunRecord) : Type 0 where

@@ -9,6 +9,7 @@ ghost use Rattle.bd_top.specs.Prepared.{IsRunnable};
 ghost use Rattle.bd_top.specs.Run.{Checks, Ends, Finishes, IsDecided, IsDoneOrNoMemory, IsExact, IsFaultless, IsGood, IsGoodPlan, IsUsable, Replays, opening_of, record_of, status_by, status_of};
 
 use crate::deorder::put_loosened;
+use crate::improve::put_improved;
 use crate::prepare::{Prepared, prepare_words};
 use crate::replay::make_offers;
 use crate::status::{Ended, Status};
@@ -90,8 +91,13 @@ fn stopped(stop: Stop, run: RunRecord) -> Ended
     }
 }
 
-// Puts the summary of a run whose offers were all made.
-fn finished<S: Sink>(alloc: Global, made: Result<(), Stop>, run: RunRecord, out: &mut S) -> Ended
+/// Puts the summary of a run that nothing stopped.
+pub(crate) fn finished<S: Sink>(
+    alloc: Global,
+    made: Result<(), Stop>,
+    run: RunRecord,
+    out: &mut S,
+) -> Ended
     requires start { IsPrintable run.task run.start }
     requires tree { IsPrintable run.task run.tree }
     ensures finishes { Finishes made run (record { before = S.told out.old; after = S.told out.new; faults = S.faults out.old; faults_after = S.faults out.new }) result.status result.run }
@@ -221,6 +227,11 @@ fn run_words<H: Shelf, S: Sink, E: Sink>(
         Prepared::Ready(script) => run_script(alloc, script, out, notes),
         Prepared::Valid { cost } => put_cost(alloc, cost, out),
         Prepared::Plan { task, plan, span } => put_loosened(alloc, task, plan, span, out),
+        Prepared::Improvable {
+            task,
+            plan,
+            numbers,
+        } => put_improved(alloc, task, plan, &numbers, out),
         Prepared::Refused { status, line } => {
             let _ = notes.put(line.as_slice());
             Ended { status, run: None }
@@ -252,7 +263,7 @@ pub fn run_alone<H: Shelf, S: Sink, E: Sink>(
     ensures exact { IsDecided result.status → IsExact (map string_bytes words.now) (H.tells shelf.old) result.status }
     // Whoever has the record of a run may ask for each of its texts.
     ensures usable { IfSome result.run (λ run. IsUsable run) }
-    // A valid plan is told so, or its tree, where nothing outside fails.
+    // A valid plan is told so, or its tree, or it is improved, where nothing outside fails.
     ensures checked { (domain problem plan : List ℕ) → IsGoodPlan (map string_bytes words.now) (H.tells shelf.old) domain problem plan → IsFaultless (H.faults shelf.old) (H.faults shelf.new) → IsFaultless (S.faults out.old) (S.faults out.new) → IsFaultless (E.faults notes.old) (E.faults notes.new) → IsDoneOrNoMemory result.status }
     // A good script is run, where nothing outside fails.
     ensures complete { (script : Script) → IsGood (map string_bytes words.now) (H.tells shelf.old) script → IsFaultless (H.faults shelf.old) (H.faults shelf.new) → IsFaultless (S.faults out.old) (S.faults out.new) → IsFaultless (E.faults notes.old) (E.faults notes.new) → IsDoneOrNoMemory result.status }

@@ -2,13 +2,16 @@
 //!
 //! It may know every crate below it. It promises what `run_alone` carries: which words and texts lead to
 //! which status, which bytes are put, that the plan of every run is valid in each of its linearisations, that
-//! the cost of a plan is put exactly where the plan is valid, and that a plan is deordered to a tree that is tight.
+//! the cost of a plan is put exactly where the plan is valid, that a plan is deordered to a tree that is tight, and that a plan is
+//! improved until nothing is left to loosen and no window has anything cheaper.
 #![tactic(auto)]
 
 mod alone;
 mod deorder;
+mod improve;
 mod notes;
 mod prepare;
+mod purpose;
 mod replay;
 mod status;
 mod texts;

@@ -7,13 +7,14 @@ ghost use Rattle.script_text.specs.Whole.{script_at};
 ghost use Rattle.bd_top.specs.declared.prepare.Prepared.TheVariants.{Refused as Refusal, NoMemory as OutOfMemory};
 
 use crate::notes::{broken_note, over_note, refused_note, unread_note};
+use crate::purpose::Purpose;
 use crate::status::{File, Status};
 use crate::texts::prepare_texts;
 use crate::usage::usage_note;
 use bd_base::{ActList, Cause, Limit, NoMemory, Shelf, ShelfErr, Text, TextErr};
 use bd_links::check;
 use bd_task::Task;
-use command_words::{Request, request_of};
+use command_words::{Numbers, Request, request_of};
 use script_text::{Script, read_script};
 use seq_check::{Broken, validate};
 use std::alloc::Global;
@@ -22,7 +23,7 @@ use std::alloc::Global;
 const TEXT_LIMIT: usize = 16_777_216;
 
 /// What the words and the texts that they name lead to.
-#[derive(Debug, Drop)]
+#[derive(Drop)]
 pub enum Prepared {
     /// A script whose plan is valid and whose start tree is sound.
     Ready(Script),
@@ -35,6 +36,12 @@ pub enum Prepared {
         task: Task,
         plan: ActList,
         span: u32,
+    },
+    /// A valid plan that is to be improved by these numbers, with its task.
+    Improvable {
+        task: Task,
+        plan: ActList,
+        numbers: Numbers,
     },
     /// A refusal, and the line that names it.
     Refused {
@@ -201,12 +208,14 @@ pub fn prepare_words<H: Shelf>(alloc: Global, words: &[String], shelf: &mut H) -
 {
     match request_of(alloc, words) {
         Ok(Some(Request::Replay { script })) => prepare_named(alloc, script, shelf),
-        Ok(Some(Request::Check { texts })) => prepare_texts(alloc, &texts, None, shelf),
+        Ok(Some(Request::Check { texts })) => prepare_texts(alloc, &texts, Purpose::Check, shelf),
         Ok(Some(Request::Deorder { texts, span })) => {
-            prepare_texts(alloc, &texts, Some(span), shelf)
+            prepare_texts(alloc, &texts, Purpose::Deorder { span }, shelf)
         }
-        // They are read, and not done yet.
-        Ok(Some(Request::Improve { .. })) => misused(alloc),
+        Ok(Some(Request::Improve { texts, numbers })) => {
+            prepare_texts(alloc, &texts, Purpose::Improve { numbers }, shelf)
+        }
+        // It is read, and not done yet.
         Ok(Some(Request::Bench { .. })) => misused(alloc),
         Ok(None) => misused(alloc),
         Err(NoMemory) => Prepared::NoMemory,

@@ -4,6 +4,7 @@ ghost use Rattle.bd_top.specs.Prepared.{PreparesTexts, IsPreparedOf, file_by, na
 
 use crate::notes::{broken_note, over_note, refused_note, unread_note};
 use crate::prepare::{Prepared, refused, unread};
+use crate::purpose::Purpose;
 use crate::status::{File, Status};
 use bd_base::Shelf;
 use command_words::TextNames;
@@ -31,15 +32,20 @@ fn name_of<'a>(names: &TextNames<'a>, part: Part) -> &'a str
 }
 
 // What is prepared of what texts lead to.
-fn told(alloc: Global, names: &TextNames, span: Option<u32>, inputs: Inputs) -> Prepared
+fn told(alloc: Global, names: &TextNames, purpose: Purpose, inputs: Inputs) -> Prepared
     requires { IsInTask inputs }
-    ensures { IsPreparedOf span (record { domain = names.now.domain.now; problem = names.now.problem.now; plan = names.now.plan.now }) inputs result }
+    ensures { IsPreparedOf purpose (record { domain = names.now.domain.now; problem = names.now.problem.now; plan = names.now.plan.now }) inputs result }
 {
     match inputs {
         Inputs::Ready { task, plan, cost } => {
-            match span {
-                Some(span) => Prepared::Plan { task, plan, span },
-                None => Prepared::Valid { cost },
+            match purpose {
+                Purpose::Check => Prepared::Valid { cost },
+                Purpose::Deorder { span } => Prepared::Plan { task, plan, span },
+                Purpose::Improve { numbers } => Prepared::Improvable {
+                    task,
+                    plan,
+                    numbers,
+                },
             }
         }
         Inputs::Unread { part, missing } => unread(alloc, name_of(names, part), missing),
@@ -60,17 +66,17 @@ fn told(alloc: Global, names: &TextNames, span: Option<u32>, inputs: Inputs) -> 
     }
 }
 
-/// Reads and judges three texts, whose plan is to be deordered at a span or only checked. The shelf still tells what it told.
+/// Reads and judges three texts, whose plan is there for a purpose. The shelf still tells what it told.
 pub fn prepare_texts<H: Shelf>(
     alloc: Global,
     names: &TextNames,
-    span: Option<u32>,
+    purpose: Purpose,
     shelf: &mut H,
 ) -> Prepared
-    ensures prepared { PreparesTexts span (record { domain = names.now.domain.now; problem = names.now.problem.now; plan = names.now.plan.now }) (H.tells shelf.old)
+    ensures prepared { PreparesTexts purpose (record { domain = names.now.domain.now; problem = names.now.problem.now; plan = names.now.plan.now }) (H.tells shelf.old)
         (record { faults = H.faults shelf.old; faults_after = H.faults shelf.new; longs = H.longs shelf.old; longs_after = H.longs shelf.new }) result }
     ensures told { (n : List ℕ) → H.tells shelf.new n ≡ H.tells shelf.old n }
 {
     let result = inputs(alloc, names.domain, names.problem, names.plan, shelf);
-    told(alloc, names, span, result)
+    told(alloc, names, purpose, result)
 }

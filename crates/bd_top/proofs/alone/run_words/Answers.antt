@@ -1,6 +1,7 @@
 use Rattle.std.proofs.Common.{refl}
 use Rattle.bd_top.proofs.DeorderLemmas.{ends_deordered, plan_known}
 use Rattle.bd_top.proofs.EndLemmas.{ends}
+use Rattle.bd_top.proofs.ImproveLemmas.{ends_improved, facts_few}
 use Rattle.bd_top.proofs.TextsLemmas.{ends_checked, noted, refused_ends}
 use Rattle.bd_top.proofs.alone.run_words.Goals as goal
 
@@ -20,3 +21,16 @@ returns-in-Plan-clause-ends g c =
 pub returns-in-Refused-clause-ends : goal.returns-in-Refused-clause-ends
 returns-in-Refused-clause-ends g c =
     refused_ends _ _ _ _ _ c.in-Refused.line refl (noted _ c.as_slice.result.now c.in-Refused.line _ c.as_slice.ensures c.put.ensures.ok c.put.ensures.err c.put.ensures.cause) c.in-Refused.status c.in-Refused.ensures.prepared
+
+pub put_improved-requires-clause-known : goal.put_improved-requires-clause-known
+put_improved-requires-clause-known g c = plan_known _ _ _ c.in-Improvable.task c.in-Improvable.plan c.in-Improvable.ensures.prepared.1
+
+pub put_improved-requires-clause-few : goal.put_improved-requires-clause-few
+put_improved-requires-clause-few g c = facts_few _ _ _ c.in-Improvable.task c.in-Improvable.plan c.in-Improvable.ensures.prepared.1
+
+pub put_improved-requires-clause-ranges : goal.put_improved-requires-clause-ranges
+put_improved-requires-clause-ranges g c = c.in-Improvable.ensures.prepared.2
+
+pub returns-in-Improvable-clause-ends : goal.returns-in-Improvable-clause-ends
+returns-in-Improvable-clause-ends g c =
+    ends_improved _ _ _ c.in-Improvable.task c.in-Improvable.plan c.in-Improvable.ensures.prepared.1 c.in-Improvable.numbers c.in-Improvable.ensures.prepared.0 _ _ refl _ _ c.put_improved.ensures

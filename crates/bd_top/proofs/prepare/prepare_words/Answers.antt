@@ -1,7 +1,7 @@
-use Rattle.std.proofs.Common.{None, Some}
 use Rattle.command_words.specs.Asked.{names_of}
 use Rattle.bd_top.proofs.CommandLemmas.{asked_bench, asked_check, asked_deorder, asked_improve, asked_nothing, asked_script}
-use Rattle.bd_top.proofs.WordsLemmas.{asks_none, asks_this, misused_prepared, script_prepared, texts_prepared}
+use Rattle.bd_top.specs.declared.purpose.Purpose.TheVariants as purpose
+use Rattle.bd_top.proofs.WordsLemmas.{asks_none, asks_this, misused_prepared, no_check, no_deorder, ranges_this, script_prepared, texts_prepared, these_numbers}
 use Rattle.bd_top.proofs.prepare.prepare_words.Goals as goal
 
 pub returns-in-Ok-Some-Replay-clause-prepared : goal.returns-in-Ok-Some-Replay-clause-prepared
@@ -11,23 +11,25 @@ returns-in-Ok-Some-Replay-clause-prepared g c =
 
 pub returns-in-Ok-Some-Check-clause-prepared : goal.returns-in-Ok-Some-Check-clause-prepared
 returns-in-Ok-Some-Check-clause-prepared g c =
-    texts_prepared _ _ _ (names_of c.in-Ok-Some-Check.texts) None
-    (asked_check _ _ (asks_this _ _ _ _ c.in-Ok-Some-Check.field-0-is c.in-Ok-Some-Check.field-0-0-is c.in-Ok-Some-Check.ensures.asked)) _ c.prepare_texts.ensures.prepared
+    texts_prepared _ _ _ (names_of c.in-Ok-Some-Check.texts) purpose.Check
+    (asked_check _ _ (asks_this _ _ _ _ c.in-Ok-Some-Check.field-0-is c.in-Ok-Some-Check.field-0-0-is c.in-Ok-Some-Check.ensures.asked)) no_check _ c.prepare_texts.ensures.prepared
 
 pub returns-in-Ok-Some-Deorder-clause-prepared : goal.returns-in-Ok-Some-Deorder-clause-prepared
 returns-in-Ok-Some-Deorder-clause-prepared g c =
-    texts_prepared _ _ _ (names_of c.in-Ok-Some-Deorder.texts) (Some c.in-Ok-Some-Deorder.span)
-    (asked_deorder _ _ _ (asks_this _ _ _ _ c.in-Ok-Some-Deorder.field-0-is c.in-Ok-Some-Deorder.field-0-0-is c.in-Ok-Some-Deorder.ensures.asked)) _ c.prepare_texts-in-Ok-Some-Deorder.ensures.prepared
+    texts_prepared _ _ _ (names_of c.in-Ok-Some-Deorder.texts) (purpose.Deorder c.in-Ok-Some-Deorder.span)
+    (asked_deorder _ _ _ (asks_this _ _ _ _ c.in-Ok-Some-Deorder.field-0-is c.in-Ok-Some-Deorder.field-0-0-is c.in-Ok-Some-Deorder.ensures.asked)) (no_deorder c.in-Ok-Some-Deorder.span) _ c.prepare_texts-in-Ok-Some-Deorder.ensures.prepared
 
 pub returns-in-Ok-Some-Improve-clause-prepared : goal.returns-in-Ok-Some-Improve-clause-prepared
 returns-in-Ok-Some-Improve-clause-prepared g c =
-    misused_prepared _ _ _
-    (asked_improve _ _ (asks_this _ _ _ _ c.in-Ok-Some-Improve.field-0-is c.in-Ok-Some-Improve.field-0-0-is c.in-Ok-Some-Improve.ensures.asked)) _ c.misused.ensures
+    texts_prepared _ _ _ (names_of c.in-Ok-Some-Improve.texts) (purpose.Improve c.in-Ok-Some-Improve.numbers)
+    (asked_improve _ _ _ (asks_this _ _ _ _ c.in-Ok-Some-Improve.field-0-is c.in-Ok-Some-Improve.field-0-0-is c.in-Ok-Some-Improve.ensures.asked))
+    (λ numbers e. these_numbers c.in-Ok-Some-Improve.numbers numbers (ranges_this _ _ _ c.in-Ok-Some-Improve.field-0-is c.in-Ok-Some-Improve.field-0-0-is c.in-Ok-Some-Improve.ensures.ranges) e)
+    _ c.prepare_texts-in-Ok-Some-Improve.ensures.prepared
 
 pub returns-in-Ok-Some-Bench-clause-prepared : goal.returns-in-Ok-Some-Bench-clause-prepared
 returns-in-Ok-Some-Bench-clause-prepared g c =
     misused_prepared _ _ _
-    (asked_bench _ _ (asks_this _ _ _ _ c.in-Ok-Some-Bench.field-0-is c.in-Ok-Some-Bench.field-0-0-is c.in-Ok-Some-Bench.ensures.asked)) _ c.misused-in-Ok-Some-Bench.ensures
+    (asked_bench _ _ (asks_this _ _ _ _ c.in-Ok-Some-Bench.field-0-is c.in-Ok-Some-Bench.field-0-0-is c.in-Ok-Some-Bench.ensures.asked)) _ c.misused.ensures
 
 pub returns-in-Ok-None-clause-prepared : goal.returns-in-Ok-None-clause-prepared
 returns-in-Ok-None-clause-prepared g c =
