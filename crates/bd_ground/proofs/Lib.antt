@@ -8,6 +8,7 @@ pub mod IndexLemmas
 pub mod JoinLemmas
 pub mod MemberLemmas
 pub mod MentionLemmas
+pub mod NotingLemmas
 pub mod OfferLemmas
 pub mod PremiseLemmas
 pub mod PriceLemmas

@@ -10,3 +10,4 @@ pub mod Mention
 pub mod Grounding
 pub mod Prices
 pub mod Index
+pub mod Singles

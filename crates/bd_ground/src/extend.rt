@@ -27,23 +27,23 @@ impl<'a> World<'a> {
         alloc: Global,
         schema: &'a Schema,
         kinds: &[u32],
-        chosen: &[u32],
+        chosen: Vec<u32>,
         found: &mut Found<'a>,
     ) -> Result<(), GroundErr>
         requires schema { IsSchema self.now.domain.now schema.now }
-        requires sized { length chosen.now + length kinds.now ≡ length schema.now.params }
-        ensures { Collects found.old (completed_instances self.now.domain.now self.now.problem.now schema.now kinds.now chosen.now) result found.new }
+        requires sized { length chosen.items + length kinds.now ≡ length schema.now.params }
+        ensures { Collects found.old (completed_instances self.now.domain.now self.now.problem.now schema.now kinds.now chosen.items) result found.new }
     {
-        if !self.passes_now(alloc, schema, chosen)? {
+        if !self.passes_now(alloc, schema, &chosen)? {
             return Ok(());
         }
         match kinds.split_first() {
             None => take_instance(alloc, self, schema, chosen, found),
             Some((_, rest)) => {
-                let objects = self.offers(alloc, schema, rest, chosen)?;
+                let objects = self.offers(alloc, schema, rest, &chosen)?;
                 for o in &objects {
-                    let more = longer(alloc, chosen, *o)?;
-                    match self.extend(alloc, schema, rest, &more, found) {
+                    let more = longer(alloc, &chosen, *o)?;
+                    match self.extend(alloc, schema, rest, more, found) {
                         Ok(()) => {}
                         Err(e) => return Err(e),
                     }

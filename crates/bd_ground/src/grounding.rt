@@ -2,7 +2,7 @@ ghost use Rattle.std.specs.Prelude.{◌≡◌, ◌≤◌, map, length, IfOk};
 ghost use Rattle.pddl_types.specs.Readable.{IsDomain, IsProblem};
 ghost use Rattle.bd_ground.specs.Instances.{task_instances};
 ghost use Rattle.bd_ground.specs.Sight.{instance_of};
-ghost use Rattle.bd_ground.specs.Task.{goal_atoms as goal_atoms_of, start_atoms as start_atoms_of, fact_atoms};
+ghost use Rattle.bd_ground.specs.Task.{goal_atoms as goal_atoms_of, start_atoms as start_atoms_of, fact_atoms, action_of};
 ghost use Rattle.bd_ground.specs.Grounding.{IsGround, Grounds};
 
 use crate::choices::World;
@@ -10,10 +10,10 @@ use crate::facts::FactTable;
 use crate::found::{Found, Instance};
 use crate::grounding_err::GroundErr;
 use crate::made::table_of;
-use crate::parts::{actions_of, names_of};
+use crate::parts::{actions_after_start, names_of};
 use crate::sets::{goal_atoms, start_atoms};
 use bd_base::NoMemory;
-use bd_task::Task;
+use bd_task::{Action, Task};
 use pddl_types::{Domain, Problem};
 use std::alloc::Global;
 
@@ -26,6 +26,7 @@ fn task_of(
     start: &[Vec<u32>],
     goal: &[Vec<u32>],
     list: &[Instance],
+    actions: Vec<Action>,
 ) -> Result<Task, NoMemory>
     requires domain { IsDomain domain.now }
     requires problem { IsProblem domain.now problem.now }
@@ -34,11 +35,11 @@ fn task_of(
     requires goal { map (λ g. g.items) goal.now ≡ goal_atoms_of problem.now }
     requires list { map instance_of list.now ≡ task_instances domain.now problem.now }
     requires few { length list.now ≤ 1_000_000 }
+    requires actions { actions.items ≡ map (λ i. action_of domain.now problem.now facts.now (instance_of i)) list.now }
     ensures { IfOk result (λ t. IsGround domain.now problem.now t) }
 {
     let atoms = facts.as_slice();
     let names = names_of(alloc, domain, problem, atoms)?;
-    let actions = actions_of(alloc, domain, problem, facts, list)?;
     let init = facts.set_of(alloc, start)?;
     let wanted = facts.set_of(alloc, goal)?;
     Ok(Task::new(names, actions, init, wanted))
@@ -59,9 +60,9 @@ fn task_from(
     let goal = goal_atoms(alloc, problem)?;
     let start = start_atoms(alloc, domain, problem, &goal)?;
     let mut facts = FactTable::new(alloc);
-    match facts.mention_task(alloc, domain, &start, &goal, list) {
-        Ok(()) => {
-            let task = task_of(alloc, domain, problem, &facts, &start, &goal, list)?;
+    match actions_after_start(alloc, domain, problem, &mut facts, &start, &goal, list) {
+        Ok(actions) => {
+            let task = task_of(alloc, domain, problem, &facts, &start, &goal, list, actions)?;
             Ok(task)
         }
         Err(e) => Err(e),

@@ -28,6 +28,7 @@ mod offers;
 mod parts;
 mod prices;
 mod sets;
+mod singles;
 mod world;
 
 pub use filling::{is_same, object_of};
