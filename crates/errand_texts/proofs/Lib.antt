@@ -1,0 +1,2 @@
+mod DomainLemmas
+mod Forms
