@@ -1,2 +1,0 @@
-mod DomainLemmas
-mod Forms
