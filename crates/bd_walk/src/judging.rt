@@ -1,23 +1,26 @@
 // Whether a candidate fits and qualifies: what the two effect lists refuse is never checked, else its tree is made and checked.
-ghost use Rattle.std.specs.Prelude.{◌≡◌, ◌↔◌, ◌+◌, ◌<◌, ◌≤◌, ◌^◌, ◌&&◌, ℕ, false, true, not, cond, length, nat_lt, IfOk, IfNone, IfSome, IsTrue};
+ghost use Rattle.std.specs.Prelude.{◌≡◌, ◌↔◌, ◌+◌, ◌<◌, ◌≤◌, ◌^◌, ◌&&◌, ℕ, false, true, not, cond, length, map, nat_lt, Some, IfOk, IfNone, IfSome, IsTrue};
 ghost use Rattle.std.specs.List.{list_all};
 ghost use Rattle.bd_base.specs.Facts.{has};
 ghost use Rattle.bd_links.specs.Sound.{IsSound, are_below};
 ghost use Rattle.bd_shape.specs.Grouped.{CanGroup, count_taken, side_id};
 ghost use Rattle.bd_shape.specs.Tightened.{right_fresh};
-ghost use Rattle.bd_tree.specs.Tree.{nodes_of, ids_of, greatest};
+ghost use Rattle.bd_tree.specs.declared.node.Node.{Block};
+ghost use Rattle.bd_tree.specs.Tree.{find_in, nodes_of, ids_of, greatest, steps_of, total};
 ghost use Rattle.bd_tree.specs.WellFormed.{IsWellFormed};
 ghost use Rattle.bd_tight.specs.Candidates.{fits, fresh_of};
 ghost use Rattle.bd_tight.specs.Gains.{MakesBoth, are_short, gain_if, is_better};
+ghost use Rattle.bd_walk.specs.Added.{AddsFor};
 ghost use Rattle.bd_walk.specs.Found.{GroupsLeft};
 
+use crate::adding::{Adds, is_hopeless};
 use crate::threat::is_threatened;
-use bd_base::{IdList, NoMemory, NodeId};
+use bd_base::{IdList, NoMemory, NodeId, PairList};
 use bd_links::check;
 use bd_shape::{can_group, can_unorder, group, unorder};
 use bd_task::Task;
 use bd_tight::Gain;
-use bd_tree::{MAX_DEPTH, Members, Tree};
+use bd_tree::{MAX_DEPTH, Members, Node, Tree};
 use std::alloc::Global;
 
 // Whether no id of the left side is one of the right side.
@@ -33,8 +36,8 @@ fn are_apart(left: &[NodeId], right: &[NodeId]) -> bool
     true
 }
 
-// Whether the sides have no kid in common and at most `span` members.
-fn are_short(span: u32, left: &[NodeId], right: &[NodeId]) -> bool
+/// Whether the sides have no kid in common and at most `span` members.
+pub(crate) fn are_short(span: u32, left: &[NodeId], right: &[NodeId]) -> bool
     ensures { result ≡ are_short span left.now right.now }
 {
     if left.len() > span as usize || right.len() > span as usize {
@@ -81,7 +84,8 @@ fn right_fresh(left: &[NodeId], next: NodeId) -> NodeId
     NodeId(next.0 + count_taken(left))
 }
 
-// The tree in which both sides are grouped, if the candidate fits; in the first one the left side is.
+// The tree in which both sides are grouped, if the candidate fits; its sides are short and apart. In the first tree the left
+// one is grouped.
 fn grouped_sides(
     alloc: Global,
     tree: &Tree,
@@ -92,6 +96,7 @@ fn grouped_sides(
     left: &[NodeId],
     right: &[NodeId],
 ) -> Result<Option<Tree>, NoMemory>
+    requires short { are_short span left.now right.now ≡ true }
     requires first { GroupsLeft tree.now block left.now next first.now }
     requires left { CanGroup tree.now block left.now }
     requires right { CanGroup tree.now block right.now }
@@ -99,9 +104,6 @@ fn grouped_sides(
     ensures none { IfOk result (λ told. IfNone told (fits tree.now span (record { block = block; left = left.now; right = right.now }) ≡ false)) }
     ensures some { IfOk result (λ told. IfSome told (λ t. MakesBoth tree.now span (record { block = block; left = left.now; right = right.now }) t)) }
 {
-    if !are_short(span, left, right) {
-        return Ok(None);
-    }
     if !can_group(first, block, right) {
         return Ok(None);
     }
@@ -183,7 +185,8 @@ fn gain_grouped(
 }
 
 /// The two sides, if they are a candidate that fits and qualifies; in the first tree the left one is grouped. Where the left one
-/// needs what the right one deletes, it is refused before it is unordered and checked.
+/// needs what the right one deletes, it is refused before it is unordered and checked; and before anything is made of it, where
+/// it is hopeless by its count of step pairs.
 pub(crate) fn gain_if(
     alloc: Global,
     task: &Task,
@@ -192,6 +195,9 @@ pub(crate) fn gain_if(
     first: &Tree,
     next: NodeId,
     block: NodeId,
+    order: &PairList,
+    nodes: &[Node],
+    adds: Adds,
     left: &[NodeId],
     right: &[NodeId],
 ) -> Result<Option<Gain>, NoMemory>
@@ -200,10 +206,16 @@ pub(crate) fn gain_if(
     requires few { nodes_of tree.now + 2 < 2 ^ 32 }
     requires ids { greatest (ids_of tree.now) + 1 < 2 ^ 63 }
     requires sound { IsSound task.now tree.now }
+    requires found { find_in block tree.now ≡ Some (Block block nodes.now order.now) }
+    requires few_steps { total (map steps_of nodes.now) < 2 ^ 32 }
+    requires adds { AddsFor nodes.now order.now left.now adds }
     requires left { CanGroup tree.now block left.now }
     requires right { CanGroup tree.now block right.now }
     ensures { IfOk result (λ told. told ≡ gain_if task.now tree.now span (record { block = block; left = left.now; right = right.now })) }
 {
+    if is_hopeless(span, order, nodes, adds, left, right) {
+        return Ok(None);
+    }
     match grouped_sides(alloc, tree, span, first, next, block, left, right)? {
         None => Ok(None),
         Some(both) => {

@@ -6,12 +6,15 @@
 //!
 //! It promises that `Walk::next` answers nothing exactly where the tree that it is lent is tight, and else a gain. What a walk
 //! keeps is only where to begin: whichever tree it is lent, its answer is true of that tree. A candidate of which the left side
-//! needs what the right one deletes is refused before it is unordered and checked.
+//! needs what the right one deletes is refused before it is unordered and checked; and one whose left side adds at least as many
+//! ordered step pairs by its grouping as its two sides have together, before any tree is made of it.
 #![tactic(auto)]
 
+mod adding;
 mod judging;
 mod sides;
 mod threat;
+mod trying;
 mod walk;
 
 pub use walk::Walk;

@@ -2,6 +2,7 @@
 ghost use Rattle.std.specs.Prelude.{◌≡◌, ◌↔◌, ◌+◌, ◌<◌, ◌^◌, ◌++◌, ◌||◌, nat_lt, not, true, length, map, slice_get, None, Some, All, IfOk, IfNone, IfSome, IsTrue, OnOk};
 ghost use Rattle.std.specs.List.{list_all};
 ghost use Rattle.bd_base.specs.Pairs.{is_before};
+ghost use Rattle.bd_tree.specs.declared.node.Node.{Block};
 ghost use Rattle.bd_tree.specs.Misfit.{leads_to};
 ghost use Rattle.bd_tree.specs.Tree.{find_in, greatest, id_of, ids_of, nodes_of};
 ghost use Rattle.bd_tree.specs.WellFormed.{IsWellFormed};
@@ -11,11 +12,9 @@ ghost use Rattle.bd_tight.specs.Candidates.{IsCandidate, IsTight, Qualifies};
 ghost use Rattle.bd_tight.specs.Gains.{HasId, blocks_of, gain_among, gain_of_two, gain_with};
 ghost use Rattle.bd_walk.specs.Found.{IsFound, IsTried, Stands, misses, misses_in};
 
-use crate::judging::{fresh_of, gain_if};
-use crate::sides::{facts_between, related, related_from, sides};
-use bd_base::{IdList, NoMemory, NodeId, PairList};
+use crate::trying::gain_of_two;
+use bd_base::{NoMemory, NodeId, PairList};
 use bd_links::{Child, as_child};
-use bd_shape::group;
 use bd_task::Task;
 use bd_tight::Gain;
 use bd_tree::{Node, Tree};
@@ -63,142 +62,6 @@ fn children_of<'a>(alloc: Global, task: &'a Task, kids: &[Node]) -> Result<Vec<C
     Ok(all)
 }
 
-// The first candidate of the left side and one of the right ones that fits and qualifies. The left side is grouped once for all.
-fn gain_with(
-    alloc: Global,
-    task: &Task,
-    tree: &Tree,
-    span: u32,
-    block: NodeId,
-    left: &[NodeId],
-    rights: &[IdList],
-) -> Result<Option<Gain>, NoMemory>
-    requires below { IsTrue (are_below (length task.now.actions) tree.now) }
-    requires few { nodes_of tree.now + 2 < 2 ^ 32 }
-    requires ids { greatest (ids_of tree.now) + 1 < 2 ^ 63 }
-    requires sound { IsSound task.now tree.now }
-    requires left { CanGroup tree.now block left.now }
-    requires rights { All (CanGroup tree.now block) rights.now }
-    ensures { IfOk result (λ told. told ≡ gain_with task.now tree.now span block rights.now left.now) }
-{
-    if left.len() > span as usize {
-        return Ok(None);
-    }
-    let next = fresh_of(tree);
-    let first = group(alloc, tree, block, left, next)?;
-    for right in rights {
-        match gain_if(
-            alloc,
-            task,
-            tree,
-            span,
-            &first,
-            next,
-            block,
-            left,
-            right.as_slice(),
-        )? {
-            Some(gain) => return Ok(Some(gain)),
-            None => {}
-        }
-    }
-    Ok(None)
-}
-
-// The same of one of the left sides.
-fn gain_among(
-    alloc: Global,
-    task: &Task,
-    tree: &Tree,
-    span: u32,
-    block: NodeId,
-    lefts: &[IdList],
-    rights: &[IdList],
-) -> Result<Option<Gain>, NoMemory>
-    requires below { IsTrue (are_below (length task.now.actions) tree.now) }
-    requires few { nodes_of tree.now + 2 < 2 ^ 32 }
-    requires ids { greatest (ids_of tree.now) + 1 < 2 ^ 63 }
-    requires sound { IsSound task.now tree.now }
-    requires lefts { All (CanGroup tree.now block) lefts.now }
-    requires rights { All (CanGroup tree.now block) rights.now }
-    ensures { IfOk result (λ told. told ≡ gain_among task.now tree.now span block lefts.now rights.now) }
-{
-    for left in lefts {
-        match gain_with(alloc, task, tree, span, block, left.as_slice(), rights)? {
-            Some(gain) => return Ok(Some(gain)),
-            None => {}
-        }
-    }
-    Ok(None)
-}
-
-// A candidate of two kids that fits and qualifies: a left side with each right one, and of these the hulls with kids from
-// place j on before the others.
-fn gain_of_kids(
-    alloc: Global,
-    task: &Task,
-    tree: &Tree,
-    span: u32,
-    own: NodeId,
-    block: &Node,
-    order: &PairList,
-    kids: &[Child<'_>],
-    first: &Child<'_>,
-    second: &Child<'_>,
-    j: u32,
-) -> Result<Option<Gain>, NoMemory>
-    requires below { IsTrue (are_below (length task.now.actions) tree.now) }
-    requires few { nodes_of tree.now + 2 < 2 ^ 32 }
-    requires ids { greatest (ids_of tree.now) + 1 < 2 ^ 63 }
-    requires sound { IsSound task.now tree.now }
-    requires stands { Stands task.now.actions tree.now own block.now order.now kids.now }
-    requires first { HasId kids.now first.now.id }
-    requires second { HasId kids.now second.now.id }
-    ensures none { IfOk result (λ told. IfNone told (gain_of_two task.now tree.now span own block.now kids.now (Some first.now) (Some second.now) ≡ None)) }
-    ensures some { IfOk result (λ told. IfSome told (λ gain. IsTried task.now tree.now span own block.now kids.now (Some first.now) (Some second.now) gain)) }
-{
-    let facts = facts_between(alloc, first, second)?;
-    let others = related(alloc, &facts, kids)?;
-    let turned = related_from(alloc, &facts, kids, j)?;
-    let lefts = sides(alloc, block, first.id(), &others)?;
-    let rights = sides(alloc, block, second.id(), &turned)?;
-    gain_among(alloc, task, tree, span, own, &lefts, &rights)
-}
-
-// The same of the kids at two places.
-fn gain_of_two(
-    alloc: Global,
-    task: &Task,
-    tree: &Tree,
-    span: u32,
-    own: NodeId,
-    block: &Node,
-    order: &PairList,
-    kids: &[Child<'_>],
-    i: u32,
-    j: u32,
-) -> Result<Option<Gain>, NoMemory>
-    requires below { IsTrue (are_below (length task.now.actions) tree.now) }
-    requires few { nodes_of tree.now + 2 < 2 ^ 32 }
-    requires ids { greatest (ids_of tree.now) + 1 < 2 ^ 63 }
-    requires sound { IsSound task.now tree.now }
-    requires stands { Stands task.now.actions tree.now own block.now order.now kids.now }
-    ensures none { IfOk result (λ told. IfNone told (gain_of_two task.now tree.now span own block.now kids.now (slice_get kids.now i) (slice_get kids.now j) ≡ None)) }
-    ensures some { IfOk result (λ told. IfSome told (λ gain. IsTried task.now tree.now span own block.now kids.now (slice_get kids.now i) (slice_get kids.now j) gain)) }
-{
-    match kids.get(i as usize) {
-        None => Ok(None),
-        Some(first) => match kids.get(j as usize) {
-            None => Ok(None),
-            Some(second) => {
-                gain_of_kids(
-                    alloc, task, tree, span, own, block, order, kids, first, second, j,
-                )
-            }
-        },
-    }
-}
-
 // The same of a pair of the order, if nothing is between.
 fn gain_at(
     alloc: Global,
@@ -208,6 +71,7 @@ fn gain_at(
     own: NodeId,
     block: &Node,
     order: &PairList,
+    nodes: &[Node],
     kids: &[Child<'_>],
     pair: (u32, u32),
 ) -> Result<Option<Gain>, NoMemory>
@@ -215,6 +79,7 @@ fn gain_at(
     requires few { nodes_of tree.now + 2 < 2 ^ 32 }
     requires ids { greatest (ids_of tree.now) + 1 < 2 ^ 63 }
     requires sound { IsSound task.now tree.now }
+    requires nodes { block.now ≡ Block own nodes.now order.now }
     requires stands { Stands task.now.actions tree.now own block.now order.now kids.now }
     requires ordered { is_before order.now pair.0 pair.1 ≡ true }
     ensures none { IfOk result (λ told. IfNone told (misses task.now tree.now span own block.now order.now kids.now pair ≡ true)) }
@@ -224,7 +89,7 @@ fn gain_at(
         return Ok(None);
     }
     gain_of_two(
-        alloc, task, tree, span, own, block, order, kids, pair.0, pair.1,
+        alloc, task, tree, span, own, block, order, nodes, kids, pair.0, pair.1,
     )
 }
 
@@ -244,6 +109,7 @@ fn gain_of_pairs(
     own: NodeId,
     block: &Node,
     order: &PairList,
+    nodes: &[Node],
     kids: &[Child<'_>],
     from: u32,
 ) -> Result<Option<(Gain, u32)>, NoMemory>
@@ -251,13 +117,16 @@ fn gain_of_pairs(
     requires few { nodes_of tree.now + 2 < 2 ^ 32 }
     requires ids { greatest (ids_of tree.now) + 1 < 2 ^ 63 }
     requires sound { IsSound task.now tree.now }
+    requires nodes { block.now ≡ Block own nodes.now order.now }
     requires stands { Stands task.now.actions tree.now own block.now order.now kids.now }
     ensures none { IfOk result (λ told. IfNone told (list_all (λ p. nat_lt p.0 from || not (is_before order.now p.0 p.1) || misses task.now tree.now span own block.now order.now kids.now p) order.now ≡ true)) }
     ensures some { IfOk result (λ told. IfSome told (λ f. IsFound task.now tree.now span f.0)) }
 {
     for pair in order.iter() {
         if !is_passed(order, from, pair) {
-            match gain_at(alloc, task, tree, span, own, block, order, kids, pair)? {
+            match gain_at(
+                alloc, task, tree, span, own, block, order, nodes, kids, pair,
+            )? {
                 Some(gain) => return Ok(Some((gain, pair.0))),
                 None => {}
             }
@@ -288,7 +157,18 @@ fn gain_in(
         Node::Step { .. } => Ok(None),
         Node::Block { id, kids, order } => {
             let children = children_of(alloc, task, kids.as_slice())?;
-            gain_of_pairs(alloc, task, tree, span, *id, block, order, &children, from)
+            gain_of_pairs(
+                alloc,
+                task,
+                tree,
+                span,
+                *id,
+                block,
+                order,
+                kids.as_slice(),
+                &children,
+                from,
+            )
         }
     }
 }

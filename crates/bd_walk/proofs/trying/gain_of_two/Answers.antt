@@ -4,7 +4,7 @@ use Rattle.bd_tight.specs.Gains.{gain_of_two}
 use Rattle.bd_tight.proofs.GainLemmas.{id_at}
 use Rattle.bd_tight.proofs.ToldLemmas.{get_some, get_none}
 use Rattle.bd_walk.specs.Found.{IsTried}
-use Rattle.bd_walk.proofs.walk.gain_of_two.Goals as goal
+use Rattle.bd_walk.proofs.trying.gain_of_two.Goals as goal
 
 pub gain_of_kids-requires-clause-first : goal.gain_of_kids-requires-clause-first
 gain_of_kids-requires-clause-first c = id_at c.args.kids.now c.args.i c.in-Some.first.now (get_some c.args.kids.now c.args.i c.in-Some.first.now c.in-Some.ensures.lookup.3.0 c.in-Some.ensures.lookup.1)

@@ -1,6 +1,7 @@
 use Rattle.bd_tight.proofs.ToldLemmas.{some_tried, none_tried}
+use Rattle.bd_walk.proofs.AddedLemmas.{none_gains}
 use Rattle.bd_walk.proofs.LongLemmas.{long_none}
-use Rattle.bd_walk.proofs.walk.gain_with.Goals as goal
+use Rattle.bd_walk.proofs.trying.gain_with.Goals as goal
 
 pub returns-in-Some : goal.returns-in-Some
 returns-in-Some c =
@@ -24,3 +25,7 @@ gain_if-requires-clause-first c = record {
   alike = c.in_ok-first.ensures.measures;
   top = c.in_ok-first.ensures.top;
 }
+
+pub returns-then-are_hopeless : goal.returns-then-are_hopeless
+returns-then-are_hopeless c =
+    none_gains c.args.task.now c.args.tree.now c.args.span c.args.block c.args.nodes.now c.args.order.now c.requires.well c.requires.found c.args.left.now c.args.rights.now c.requires.left c.requires.rights (c.are_hopeless.ensures c.if-are_hopeless.true)

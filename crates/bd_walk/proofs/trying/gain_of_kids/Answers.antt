@@ -1,11 +1,13 @@
-use Rattle.std.proofs.Common.{◌≡◌, ℕ, List, All, sym, ap, ◌∙◌, subst}
+use Rattle.std.proofs.Common.{◌≡◌, ℕ, List, All, Some, sym, ap, ◌∙◌, subst}
 use Rattle.bd_base.specs.Facts.{has}
 use Rattle.bd_shape.specs.Grouped.{CanGroup}
 use Rattle.bd_tight.specs.Gains.{facts_between, ids_related, sides_by}
 use Rattle.bd_tight.proofs.GainLemmas.{sides_group}
+use Rattle.bd_tree.specs.declared.node.Node.{Node}
+use Rattle.bd_walk.proofs.AddedLemmas.{few_steps}
 use Rattle.bd_walk.proofs.FoundLemmas.{in_tree, sides_group_too}
 use Rattle.bd_walk.proofs.TellLemmas.{kids_none, kids_some}
-use Rattle.bd_walk.proofs.walk.gain_of_kids.Goals as goal
+use Rattle.bd_walk.proofs.trying.gain_of_kids.Goals as goal
 
 pub gain_among-requires-clause-lefts : goal.gain_among-requires-clause-lefts
 gain_among-requires-clause-lefts c =
@@ -50,3 +52,13 @@ returns-clause-some c =
     let rights : c.deref-6.result.now ≡ sides_by c.args.block.now c.args.second.now.id c.deref-4.result.now =
     c.deref-6.ensures.value ∙ c.in_ok-rights.ensures ∙ ap (λ (i : ℕ). sides_by c.args.block.now i c.deref-4.result.now) c.id-2.ensures in
     kids_some c.args.task.now c.args.tree.now c.args.span c.args.own c.args.block.now c.args.kids.now c.args.first.now c.args.second.now c.deref-4.result.now turned c.deref-5.result.now c.deref-6.result.now lefts rights c.gain_among.result c.gain_among.ensures
+
+pub gain_among-requires-clause-well : goal.gain_among-requires-clause-well
+gain_among-requires-clause-well c = c.requires.stands.well
+
+pub gain_among-requires-clause-found : goal.gain_among-requires-clause-found
+gain_among-requires-clause-found c = c.requires.stands.found ∙ ap (λ (n : Node). Some n) (sym c.requires.stands.is ∙ c.requires.nodes)
+
+pub gain_among-requires-clause-few_steps : goal.gain_among-requires-clause-few_steps
+gain_among-requires-clause-few_steps c =
+    few_steps c.args.tree.now c.args.own c.args.nodes.now c.args.order.now c.requires.stands.well (c.requires.stands.found ∙ ap (λ (n : Node). Some n) (sym c.requires.stands.is ∙ c.requires.nodes)) c.requires.few
