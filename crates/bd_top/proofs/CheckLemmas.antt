@@ -17,13 +17,13 @@ use Rattle.run_texts.specs.declared.record.RunRecord.{RunRecord}
 use Rattle.bd_top.specs.declared.status.File.{File}
 use Rattle.bd_top.specs.declared.status.Status.{Status}
 use Rattle.bd_top.specs.declared.status.Status.TheVariants as status
-use Rattle.bd_top.specs.Prepared.{Names, NamesTexts, IsNamedRefusal, IsTextsRefusal, IsRefusal, TextsLead, Tells, file_by, name_by}
+use Rattle.bd_top.specs.Prepared.{AsksErrands, Names, NamesTexts, IsErrandsRefusal, IsNamedRefusal, IsTextsRefusal, IsRefusal, TextsLead, Tells, file_by, name_by}
 use Rattle.bd_top.specs.Plans.{IsCheckedPlan}
 use Rattle.run_texts.specs.Taken.{Taken, HasFailed}
 use Rattle.bd_top.specs.Words.{texts_named}
 use Rattle.command_words.specs.Asked.{Names as TextNames}
-use Rattle.bd_top.specs.Run.{Ends, HasWriteFault, IsExactCheck, AreNamedTexts, IsGoodPlan, BreaksFirst, IsFirstFault, IsFaultless, IsDoneOrNoMemory}
-use Rattle.bd_top.proofs.CommandLemmas.{one_command}
+use Rattle.bd_top.specs.Run.{Ends, HasWriteFault, IsExactCheck, IsExactFor, AreNamedTexts, IsGoodPlan, BreaksFirst, IsFirstFault, IsFaultless, IsDoneOrNoMemory}
+use Rattle.bd_top.proofs.CommandLemmas.{errands_no_texts, one_command}
 
 names_same : (o : Option TextNames) (m n : TextNames) → o ≡ Some m → o ≡ Some n → m ≡ n
 names_same o m n e h = cc
@@ -78,11 +78,44 @@ refused_same f g place other c d e = (cc, cc, cc)
 refused_eq : (f g : File) (place other : ℕ) (c d : Cause) → f ≡ g → place ≡ other → c ≡ d → status.TextRefused f place c ≡ status.TextRefused g other d
 refused_eq f g place other c d a e h = cc
 
-valid_outcome : (d p q : List ℕ) (task : TaskView) (list : List ℕ) → IsValidPlan d p q task list → outcome d p q ≡ inputs.Ready task list (cost_of task list)
+pub valid_outcome : (d p q : List ℕ) (task : TaskView) (list : List ℕ) → IsValidPlan d p q task list → outcome d p q ≡ inputs.Ready task list (cost_of task list)
 valid_outcome d p q task list v = (valid_plans_law d p q task list (cost_of task list)).1 (v, refl)
 
+-- of three texts, each status comes exactly where its cause stands
+module _ (d p q : List ℕ) where
+  pub valid_exact : (task : TaskView) (list : List ℕ) → IsValidPlan d p q task list → IsExactFor d p q status.Done
+  valid_exact task list v = record {
+    done = ((λ e. record { task = task; list = list; valid = v }), (λ h. refl));
+    invalid = λ b. ((λ e. absurd (done_invalid b e)), (λ x. absurd (ready_broken (outcome d p q) task x.task list (cost_of task list) b (valid_outcome d p q task list v) x.leads)));
+    refused = λ f place c. ((λ e. absurd (done_refused f place c e)), (λ x. absurd (ready_refused (outcome d p q) task list (cost_of task list) x.part place c (valid_outcome d p q task list v) x.leads)));
+  }
+
+  pub broken_exact : (b : Broken) → BreaksFirst d p q b → IsExactFor d p q (status.PlanInvalid b)
+  broken_exact b x = record {
+    done = ((λ e. absurd (done_invalid b (sym e))), (λ v. absurd (ready_broken (outcome d p q) v.task x.task v.list (cost_of v.task v.list) b (valid_outcome d p q v.task v.list v.valid) x.leads)));
+    invalid = λ other. ((λ e. subst (λ z. BreaksFirst d p q z) (invalid_same b other e) x), (λ y. ap (λ z. status.PlanInvalid z) (one_broken (outcome d p q) x.task y.task b other x.leads y.leads)));
+    refused = λ f place c. ((λ e. absurd (invalid_refused b f place c e)), (λ y. absurd (broken_refused (outcome d p q) x.task b y.part place c x.leads y.leads)));
+  }
+
+  one_fault : (f g : File) (place other : ℕ) (cause more : Cause) → IsFirstFault d p q f place cause → IsFirstFault d p q g other more → status.TextRefused f place cause ≡ status.TextRefused g other more
+  one_fault f g place other cause more x y =
+      let s = one_refused (outcome d p q) x.part y.part place other cause more x.leads y.leads in
+      refused_eq f g place other cause more (x.of_part ∙ ap file_by s.0 ∙ sym y.of_part) s.1 s.2
+
+  same_fault : (f g : File) (place other : ℕ) (cause more : Cause) → status.TextRefused f place cause ≡ status.TextRefused g other more → IsFirstFault d p q f place cause → IsFirstFault d p q g other more
+  same_fault f g place other cause more e x =
+      let s = refused_same f g place other cause more e in
+      record { part = x.part; of_part = sym s.0 ∙ x.of_part; leads = x.leads ∙ ap (λ z. inputs.Refused x.part z cause) s.1 ∙ ap (λ z. inputs.Refused x.part other z) s.2 }
+
+  pub refused_exact : (f : File) (place : ℕ) (cause : Cause) → IsFirstFault d p q f place cause → IsExactFor d p q (status.TextRefused f place cause)
+  refused_exact f place cause x = record {
+    done = ((λ e. absurd (done_refused f place cause (sym e))), (λ v. absurd (ready_refused (outcome d p q) v.task v.list (cost_of v.task v.list) x.part place cause (valid_outcome d p q v.task v.list v.valid) x.leads)));
+    invalid = λ b. ((λ e. absurd (invalid_refused b f place cause (sym e))), (λ y. absurd (broken_refused (outcome d p q) y.task b x.part place cause y.leads x.leads)));
+    refused = λ g other more. ((λ e. same_fault f g place other cause more e x), (λ y. one_fault f g place other cause more x y));
+  }
+
 -- what a status that tells of an outcome says of it
-broken_result : (names : TextNames) (r : Inputs) (b : Broken) (line : List ℕ) → Tells names r (status.PlanInvalid b) line → (task : TaskView) × (r ≡ inputs.Broken task b)
+pub broken_result : (names : TextNames) (r : Inputs) (b : Broken) (line : List ℕ) → Tells names r (status.PlanInvalid b) line → (task : TaskView) × (r ≡ inputs.Broken task b)
 broken_result names (inputs.Broken task d) b line h = (task, ap (λ z. inputs.Broken task z) (sym (invalid_same b d h.0)))
 broken_result names (inputs.Unread p missing) b line h = absurd (invalid_unread b (name_by names p) missing h.0)
 broken_result names (inputs.Refused p place cause) b line h = absurd (invalid_refused b (file_by p) place cause h.0)
@@ -90,7 +123,7 @@ broken_result names (inputs.Over l count) b line h = absurd (invalid_over b l co
 broken_result names (inputs.Ready task plan cost) b line h = absurd h
 broken_result names inputs.NoMemory b line h = absurd h
 
-refused_result : (names : TextNames) (r : Inputs) (f : File) (place : ℕ) (cause : Cause) (line : List ℕ) → Tells names r (status.TextRefused f place cause) line → (p : Part) × (f ≡ file_by p) × (r ≡ inputs.Refused p place cause)
+pub refused_result : (names : TextNames) (r : Inputs) (f : File) (place : ℕ) (cause : Cause) (line : List ℕ) → Tells names r (status.TextRefused f place cause) line → (p : Part) × (f ≡ file_by p) × (r ≡ inputs.Refused p place cause)
 refused_result names (inputs.Refused p other d) f place cause line h =
     let s = refused_same f (file_by p) place other cause d h.0 in (p, s.0, ap (λ z. inputs.Refused p z d) (sym s.1) ∙ ap (λ z. inputs.Refused p place z) (sym s.2))
 refused_result names (inputs.Broken task d) f place cause line h = absurd (invalid_refused d f place cause (sym h.0))
@@ -116,11 +149,7 @@ module _ (words : List (List ℕ)) (tells : List ℕ → Told) where
       subst (λ z. IsValidPlan d p z h.task h.list) (sym is_q) (subst (λ z. IsValidPlan d z h.plan h.task h.list) (sym is_p) (subst (λ z. IsValidPlan z h.problem h.plan h.task h.list) (sym is_d) h.valid))
 
   pub check_done : (cost : ℕ) → IsCheckedPlan words tells cost → IsExactCheck words tells status.Done
-  check_done cost h = record {
-    done = λ d p q n. ((λ e. record { task = h.task; list = h.list; valid = plan_at cost h d p q n }), (λ v. refl));
-    invalid = λ d p q n b. ((λ e. absurd (done_invalid b e)), (λ x. absurd (ready_broken (outcome d p q) h.task x.task h.list (cost_of h.task h.list) b (valid_outcome d p q h.task h.list (plan_at cost h d p q n)) x.leads)));
-    refused = λ d p q n f place c. ((λ e. absurd (done_refused f place c e)), (λ x. absurd (ready_refused (outcome d p q) h.task h.list (cost_of h.task h.list) x.part place c (valid_outcome d p q h.task h.list (plan_at cost h d p q n)) x.leads)));
-  }
+  check_done cost h = λ d p q n. valid_exact d p q h.task h.list (plan_at cost h d p q n)
 
   module _ (c : Counts) where
     broken_at : (b : Broken) (line : List ℕ) → NamesTexts words (λ names. IsTextsRefusal names tells c (status.PlanInvalid b) line) → (d p q : List ℕ) → AreNamedTexts words tells d p q → BreaksFirst d p q b
@@ -129,33 +158,15 @@ module _ (words : List (List ℕ)) (tells : List ℕ → Told) where
         record { task = r.0; leads = leads_outcome d p q c (inputs.Broken r.0 b) (λ part t is k. k) (subst (λ z. LeadsTo (text d) (text p) (text q) c z) r.1 (lead_at c d p q h.names h.holds.result h.named n h.holds.leads)) }
 
     pub check_invalid : (b : Broken) (line : List ℕ) → NamesTexts words (λ names. IsTextsRefusal names tells c (status.PlanInvalid b) line) → IsExactCheck words tells (status.PlanInvalid b)
-    check_invalid b line h = record {
-      done = λ d p q n. ((λ e. absurd (done_invalid b (sym e))), (λ v. absurd (let x = broken_at b line h d p q n in ready_broken (outcome d p q) v.task x.task v.list (cost_of v.task v.list) b (valid_outcome d p q v.task v.list v.valid) x.leads)));
-      invalid = λ d p q n other. ((λ e. subst (λ z. BreaksFirst d p q z) (invalid_same b other e) (broken_at b line h d p q n)), (λ x. ap (λ z. status.PlanInvalid z) (let y = broken_at b line h d p q n in one_broken (outcome d p q) y.task x.task b other y.leads x.leads)));
-      refused = λ d p q n f place cause. ((λ e. absurd (invalid_refused b f place cause e)), (λ x. absurd (let y = broken_at b line h d p q n in broken_refused (outcome d p q) y.task b x.part place cause y.leads x.leads)));
-    }
+    check_invalid b line h = λ d p q n. broken_exact d p q b (broken_at b line h d p q n)
 
     refused_at : (f : File) (place : ℕ) (cause : Cause) (line : List ℕ) → NamesTexts words (λ names. IsTextsRefusal names tells c (status.TextRefused f place cause) line) → (d p q : List ℕ) → AreNamedTexts words tells d p q → IsFirstFault d p q f place cause
     refused_at f place cause line h d p q n =
         let r = refused_result h.names h.holds.result f place cause line h.holds.told in
         record { part = r.0; of_part = r.1; leads = leads_outcome d p q c (inputs.Refused r.0 place cause) (λ part t is k. k) (subst (λ z. LeadsTo (text d) (text p) (text q) c z) r.2 (lead_at c d p q h.names h.holds.result h.named n h.holds.leads)) }
 
-    one_fault : (d p q : List ℕ) (f g : File) (place other : ℕ) (cause more : Cause) → IsFirstFault d p q f place cause → IsFirstFault d p q g other more → status.TextRefused f place cause ≡ status.TextRefused g other more
-    one_fault d p q f g place other cause more x y =
-        let s = one_refused (outcome d p q) x.part y.part place other cause more x.leads y.leads in
-        refused_eq f g place other cause more (x.of_part ∙ ap file_by s.0 ∙ sym y.of_part) s.1 s.2
-
-    same_fault : (d p q : List ℕ) (f g : File) (place other : ℕ) (cause more : Cause) → status.TextRefused f place cause ≡ status.TextRefused g other more → IsFirstFault d p q f place cause → IsFirstFault d p q g other more
-    same_fault d p q f g place other cause more e x =
-        let s = refused_same f g place other cause more e in
-        record { part = x.part; of_part = sym s.0 ∙ x.of_part; leads = x.leads ∙ ap (λ z. inputs.Refused x.part z cause) s.1 ∙ ap (λ z. inputs.Refused x.part other z) s.2 }
-
     pub check_refused : (f : File) (place : ℕ) (cause : Cause) (line : List ℕ) → NamesTexts words (λ names. IsTextsRefusal names tells c (status.TextRefused f place cause) line) → IsExactCheck words tells (status.TextRefused f place cause)
-    check_refused f place cause line h = record {
-      done = λ d p q n. ((λ e. absurd (done_refused f place cause (sym e))), (λ v. absurd (let x = refused_at f place cause line h d p q n in ready_refused (outcome d p q) v.task v.list (cost_of v.task v.list) x.part place cause (valid_outcome d p q v.task v.list v.valid) x.leads)));
-      invalid = λ d p q n b. ((λ e. absurd (invalid_refused b f place cause (sym e))), (λ x. absurd (let y = refused_at f place cause line h d p q n in broken_refused (outcome d p q) x.task b y.part place cause x.leads y.leads)));
-      refused = λ d p q n g other more. ((λ e. same_fault d p q f g place other cause more e (refused_at f place cause line h d p q n)), (λ x. one_fault d p q f g place other cause more (refused_at f place cause line h d p q n) x));
-    }
+    check_refused f place cause line h = λ d p q n. refused_exact d p q f place cause (refused_at f place cause line h d p q n)
 
 -- a valid plan is told so, where nothing outside fails
 module _ (words : List (List ℕ)) (tells : List ℕ → Told) (d p q : List ℕ) (good : IsGoodPlan words tells d p q) (c : Counts) (faultless : IsFaultless c.faults c.faults_after) where
@@ -168,9 +179,10 @@ module _ (words : List (List ℕ)) (tells : List ℕ → Told) (d p q : List ℕ
       (sym (faultless_outcome d p q c h.result faultless good.short_domain good.short_problem good.short_plan (lead_at words tells c d p q names h.result named good.told h.leads)) ∙ valid_outcome d p q good.task good.list good.valid)
       h.told
 
-  of_name : (why : Status) (line : List ℕ) → Names words (λ name. IsNamedRefusal name (tells name) c why line) ⊎ NamesTexts words (λ names. IsTextsRefusal names tells c why line) → ⊥
+  of_name : (why : Status) (line : List ℕ) → Names words (λ name. IsNamedRefusal name (tells name) c why line) ⊎ NamesTexts words (λ names. IsTextsRefusal names tells c why line) ⊎ AsksErrands words (λ size. IsErrandsRefusal size why line) → ⊥
   of_name why line (inl h) = one_command words h.name good.told.names h.named good.told.named
-  of_name why line (inr h) = no_texts_refusal h.names why line h.named h.holds
+  of_name why line (inr (inl h)) = no_texts_refusal h.names why line h.named h.holds
+  of_name why line (inr (inr h)) = errands_no_texts words h.size h.asked good.told.names good.told.named
 
   no_refusal : (why : Status) (line : List ℕ) → IsRefusal words tells c why line → ⊥
   no_refusal status.Usage line h = some_none (texts_named words) good.told.names good.told.named h.1
@@ -190,7 +202,8 @@ module _ (words : List (List ℕ)) (tells : List ℕ → Told) (d p q : List ℕ
   no_fault out notes None quiet still h = quiet h.printed.failed
   no_fault out notes (Some run) quiet still (inl h) = failed out notes quiet still h.failed
   no_fault out notes (Some run) quiet still (inr (inl h)) = quiet h.printed.failed
-  no_fault out notes (Some run) quiet still (inr (inr h)) = quiet h.printed.failed
+  no_fault out notes (Some run) quiet still (inr (inr (inl h))) = quiet h.printed.failed
+  no_fault out notes (Some run) quiet still (inr (inr (inr h))) = quiet h.printed.failed
 
   pub checked : (out notes : Taken) (why : Status) (run : Option RunRecord) → IsFaultless out.faults out.faults_after → IsFaultless notes.faults notes.faults_after →
       Ends words tells c out notes why run → IsDoneOrNoMemory why

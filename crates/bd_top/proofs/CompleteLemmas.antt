@@ -17,8 +17,8 @@ use Rattle.bd_top.specs.declared.status.File.TheVariants as file
 use Rattle.bd_top.specs.declared.status.Status.{Status}
 use Rattle.bd_top.specs.declared.status.Status.TheVariants as status
 use Rattle.task_inputs.specs.Reads.{Counts, WasRead, IsToldAs, IsUnread, IsLong}
-use Rattle.bd_top.specs.Prepared.{Names, NamesTexts, IsTextRefusal, IsTextsRefusal, IsNamedRefusal, IsRefusal, HasUnsoundStart, IsReadyText, start_of}
-use Rattle.bd_top.proofs.CommandLemmas.{one_command}
+use Rattle.bd_top.specs.Prepared.{AsksErrands, Names, NamesTexts, IsErrandsRefusal, IsTextRefusal, IsTextsRefusal, IsNamedRefusal, IsRefusal, HasUnsoundStart, IsReadyText, start_of}
+use Rattle.bd_top.proofs.CommandLemmas.{errands_no_script, one_command}
 use Rattle.bd_top.specs.Run.{Ends, HasWriteFault, IsGood, IsFaultless, IsDoneOrNoMemory}
 use Rattle.run_texts.specs.Taken.{Taken, HasFailed}
 
@@ -98,9 +98,10 @@ module _ (words : List (List ℕ)) (tells : List ℕ → Told) (script : Script)
     no_named_refusal status.WriteFault line h = no_read_refusal status.WriteFault line h
     no_named_refusal status.NoMemory line h = no_read_refusal status.NoMemory line h
 
-    of_name : (why : Status) (line : List ℕ) → Names words (λ name. IsNamedRefusal name (tells name) c why line) ⊎ NamesTexts words (λ names. IsTextsRefusal names tells c why line) → ⊥
+    of_name : (why : Status) (line : List ℕ) → Names words (λ name. IsNamedRefusal name (tells name) c why line) ⊎ NamesTexts words (λ names. IsTextsRefusal names tells c why line) ⊎ AsksErrands words (λ size. IsErrandsRefusal size why line) → ⊥
     of_name why line (inl h) = no_named_refusal why line (subst (λ z. IsNamedRefusal z (tells z) c why line) (named_same _ good.name h.name good.named h.named) h.holds)
-    of_name why line (inr h) = one_command words good.name h.names good.named h.named
+    of_name why line (inr (inl h)) = one_command words good.name h.names good.named h.named
+    of_name why line (inr (inr h)) = errands_no_script words h.size h.asked good.name good.named
 
     no_refusal : (why : Status) (line : List ℕ) → IsRefusal words tells c why line → ⊥
     no_refusal status.Usage line h = differs _ good.name h.0 good.named
@@ -120,7 +121,8 @@ module _ (words : List (List ℕ)) (tells : List ℕ → Told) (script : Script)
     no_fault out notes None quiet still h = quiet h.printed.failed
     no_fault out notes (Some run) quiet still (inl h) = no_failure out notes quiet still h.failed
     no_fault out notes (Some run) quiet still (inr (inl h)) = quiet h.printed.failed
-    no_fault out notes (Some run) quiet still (inr (inr h)) = quiet h.printed.failed
+    no_fault out notes (Some run) quiet still (inr (inr (inl h))) = quiet h.printed.failed
+    no_fault out notes (Some run) quiet still (inr (inr (inr h))) = quiet h.printed.failed
 
     pub complete : (out notes : Taken) (why : Status) (run : Option RunRecord) → IsFaultless out.faults out.faults_after → IsFaultless notes.faults notes.faults_after →
         Ends words tells c out notes why run → IsDoneOrNoMemory why

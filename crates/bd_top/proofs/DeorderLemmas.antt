@@ -40,7 +40,7 @@ few_calls n e = elim (cases_lt 2_000 n) [ inl more ↦ absurd (no_limit (nat_lt 
 map_lengths : {X : Type 0} {Y : Type 0} {Z : Type 0} (f : X → Z) (g : Y → Z) (xs : List X) (ys : List Y) → map f xs ≡ map g ys → length xs ≡ length ys
 map_lengths f g xs ys e = sym (length-map xs f) ∙ ap (λ z. length z) e ∙ length-map ys g
 
-known_plan : (d p q : List ℕ) (task : TaskView) (list : List ℕ) → IsValidPlan d p q task list → IsKnown task list
+pub known_plan : (d p q : List ℕ) (task : TaskView) (list : List ℕ) → IsValidPlan d p q task list → IsKnown task list
 known_plan d p q task list v = record {
   in_range = subst (λ (t : TaskView). All (λ a. a < length t.actions) list) (sym v.grounded) (in_task v.d v.p v.calls list v.listed);
   few = omega (arith, few_calls (length v.calls) v.few_steps, map_lengths _ _ v.calls list (from_list v.d v.p v.calls list v.listed));

@@ -15,13 +15,14 @@ use Rattle.bd_top.specs.declared.status.File.TheVariants as file
 use Rattle.bd_top.specs.declared.status.Status.{Status}
 use Rattle.bd_top.specs.declared.status.Status.TheVariants as status
 use Rattle.task_inputs.specs.Reads.{Counts, WasRead, IsToldAs}
-use Rattle.bd_top.specs.Prepared.{Names, NamesTexts, IsNamedRefusal, IsTextsRefusal, IsReadyText, IsTextRefusal, IsBroken, IsNoScript, IsUnsoundStart}
-use Rattle.bd_top.specs.Words.{script_named, texts_named}
+use Rattle.bd_top.specs.Prepared.{AsksErrands, Names, NamesTexts, IsErrandsRefusal, IsNamedRefusal, IsTextsRefusal, IsReadyText, IsTextRefusal, IsBroken, IsNoScript, IsUnsoundStart}
+use Rattle.bd_top.specs.Words.{errands_asked, script_named, texts_named}
 use Rattle.command_words.specs.Asked.{Names as TextNames}
-use Rattle.bd_top.specs.Run.{Ends, IsAllDone, IsDecided, IsExact, IsExactRun, IsExactCheck, IsNamedText}
+use Rattle.bd_top.specs.Run.{Ends, IsAllDone, IsDecided, IsExact, IsExactBench, IsExactRun, IsExactCheck, IsNamedText}
 use Rattle.run_texts.specs.Taken.{Taken}
 use Rattle.bd_top.proofs.CompleteLemmas.{no_ready_refusal}
-use Rattle.bd_top.proofs.CommandLemmas.{one_command}
+use Rattle.bd_top.proofs.BenchLemmas.{bench_done, bench_invalid, bench_refused}
+use Rattle.bd_top.proofs.CommandLemmas.{errands_no_script, errands_no_texts, one_command}
 use Rattle.bd_top.proofs.CheckLemmas.{check_done, check_invalid, check_refused}
 
 -- of one text, all that is refused has one cause
@@ -122,18 +123,22 @@ module _ (words : List (List ℕ)) (tells : List ℕ → Told) where
       one_name : (m n : List ℕ) → script_named words ≡ Some m → script_named words ≡ Some n → m ≡ n
       one_name m n e k = cc
 
-  -- the words name no script, or no texts
+  -- the words name no script, or no texts, or ask for no errands
   no_script : ((name : List ℕ) → script_named words ≡ Some name → ⊥) → (why : Status) → IsExactRun words tells why
   no_script never why = record { done = λ t n. absurd (never n.name n.named); invalid = λ t n b. absurd (never n.name n.named); refused = λ t n f place c. absurd (never n.name n.named) }
 
   no_texts : ((names : TextNames) → texts_named words ≡ Some names → ⊥) → (why : Status) → IsExactCheck words tells why
-  no_texts never why = record { done = λ d p q n. absurd (never n.names n.named); invalid = λ d p q n b. absurd (never n.names n.named); refused = λ d p q n f place c. absurd (never n.names n.named) }
+  no_texts never why = λ d p q n. absurd (never n.names n.named)
+
+  no_errands : ((size : ℕ) → errands_asked words ≡ Some size → ⊥) → (why : Status) → IsExactBench words why
+  no_errands never why = λ size asked. absurd (never size asked)
 
   by_script : (name : List ℕ) → script_named words ≡ Some name → (why : Status) → (why ≡ status.Usage → ⊥) → IsExactRun words tells why → IsExact words tells why
   by_script name named why not run = record {
     usage = ((λ e. absurd (not e)), (λ h. absurd (some_none (script_named words) name named h.0)));
     run = run;
     check = no_texts (λ names e. one_command words name names named e) why;
+    bench = no_errands (λ size e. errands_no_script words size e name named) why;
   }
 
   by_texts : (names : TextNames) → texts_named words ≡ Some names → (why : Status) → (why ≡ status.Usage → ⊥) → IsExactCheck words tells why → IsExact words tells why
@@ -141,14 +146,24 @@ module _ (words : List (List ℕ)) (tells : List ℕ → Told) where
     usage = ((λ e. absurd (not e)), (λ h. absurd (some_none (texts_named words) names named h.1)));
     run = no_script (λ name e. one_command words name names e named) why;
     check = check;
+    bench = no_errands (λ size e. errands_no_texts words size e names named) why;
+  }
+
+  by_errands : (size : ℕ) → errands_asked words ≡ Some size → (why : Status) → (why ≡ status.Usage → ⊥) → IsExactBench words why → IsExact words tells why
+  by_errands size asked why not bench = record {
+    usage = ((λ e. absurd (not e)), (λ h. absurd (some_none (errands_asked words) size asked h.2)));
+    run = no_script (λ name e. errands_no_script words size asked name e) why;
+    check = no_texts (λ names e. errands_no_texts words size asked names e) why;
+    bench = bench;
   }
 
   -- usage
-  usage_exact : script_named words ≡ None → texts_named words ≡ None → IsExact words tells status.Usage
-  usage_exact none never = record {
-    usage = ((λ e. (none, never)), (λ e. refl));
+  usage_exact : script_named words ≡ None → texts_named words ≡ None → errands_asked words ≡ None → IsExact words tells status.Usage
+  usage_exact none never nothing = record {
+    usage = ((λ e. (none, never, nothing)), (λ e. refl));
     run = no_script (λ name e. some_none (script_named words) name e none) status.Usage;
     check = no_texts (λ names e. some_none (texts_named words) names e never) status.Usage;
+    bench = no_errands (λ size e. some_none (errands_asked words) size e nothing) status.Usage;
   }
 
   -- a script that is ready
@@ -186,22 +201,25 @@ module _ (words : List (List ℕ)) (tells : List ℕ → Told) where
     of_run : (run : Option RunRecord) → IsAllDone words tells out notes run → IsExact words tells status.Done
     of_run None h = by_texts h.checked.names h.checked.named status.Done done_usage (check_done words tells h.cost h.checked)
     of_run (Some run) (inr (inl h)) = by_texts h.is_run.checked.names h.is_run.checked.named status.Done done_usage (check_done words tells h.is_run.cost h.is_run.checked)
-    of_run (Some run) (inr (inr h)) = by_texts h.is_run.checked.names h.is_run.checked.named status.Done done_usage (check_done words tells h.is_run.cost h.is_run.checked)
+    of_run (Some run) (inr (inr (inr h))) = by_errands h.is_run.size h.is_run.asked status.Done done_usage (bench_done words run h.is_run)
+    of_run (Some run) (inr (inr (inl h))) = by_texts h.is_run.checked.names h.is_run.checked.named status.Done done_usage (check_done words tells h.is_run.cost h.is_run.checked)
     of_run (Some run) (inl h) = by_script h.recorded.ready.name h.recorded.ready.named status.Done done_usage (done_exact h.recorded.script h.recorded.ready)
 
-    of_invalid : (b : Broken) (line : List ℕ) → Names words (λ name. IsNamedRefusal name (tells name) c (status.PlanInvalid b) line) ⊎ NamesTexts words (λ names. IsTextsRefusal names tells c (status.PlanInvalid b) line) →
-        IsExact words tells (status.PlanInvalid b)
+    of_invalid : (b : Broken) (line : List ℕ) → Names words (λ name. IsNamedRefusal name (tells name) c (status.PlanInvalid b) line) ⊎ NamesTexts words (λ names. IsTextsRefusal names tells c (status.PlanInvalid b) line)
+        ⊎ AsksErrands words (λ size. IsErrandsRefusal size (status.PlanInvalid b) line) → IsExact words tells (status.PlanInvalid b)
     of_invalid b line (inl h) = by_script h.name h.named (status.PlanInvalid b) (invalid_usage b) (invalid_exact b line h)
-    of_invalid b line (inr h) = by_texts h.names h.named (status.PlanInvalid b) (invalid_usage b) (check_invalid words tells c b line h)
+    of_invalid b line (inr (inr h)) = by_errands h.size h.asked (status.PlanInvalid b) (invalid_usage b) (bench_invalid words b line h)
+    of_invalid b line (inr (inl h)) = by_texts h.names h.named (status.PlanInvalid b) (invalid_usage b) (check_invalid words tells c b line h)
 
-    of_refused : (f : File) (place : ℕ) (cause : Cause) (line : List ℕ) → Names words (λ name. IsNamedRefusal name (tells name) c (status.TextRefused f place cause) line) ⊎ NamesTexts words (λ names. IsTextsRefusal names tells c (status.TextRefused f place cause) line) →
-        IsExact words tells (status.TextRefused f place cause)
+    of_refused : (f : File) (place : ℕ) (cause : Cause) (line : List ℕ) → Names words (λ name. IsNamedRefusal name (tells name) c (status.TextRefused f place cause) line) ⊎ NamesTexts words (λ names. IsTextsRefusal names tells c (status.TextRefused f place cause) line)
+        ⊎ AsksErrands words (λ size. IsErrandsRefusal size (status.TextRefused f place cause) line) → IsExact words tells (status.TextRefused f place cause)
     of_refused f place cause line (inl h) = by_script h.name h.named (status.TextRefused f place cause) (refused_usage f place cause) (refused_exact f place cause line h)
-    of_refused f place cause line (inr h) = by_texts h.names h.named (status.TextRefused f place cause) (refused_usage f place cause) (check_refused words tells c f place cause line h)
+    of_refused f place cause line (inr (inr h)) = by_errands h.size h.asked (status.TextRefused f place cause) (refused_usage f place cause) (bench_refused words f place cause line h)
+    of_refused f place cause line (inr (inl h)) = by_texts h.names h.named (status.TextRefused f place cause) (refused_usage f place cause) (check_refused words tells c f place cause line h)
 
     pub exact : (why : Status) (run : Option RunRecord) → Ends words tells c out notes why run → IsDecided why → IsExact words tells why
     exact status.Done run h d = of_run run h
     exact (status.PlanInvalid b) run h d = of_invalid b h.line h.refusal
-    exact status.Usage run h d = usage_exact h.refusal.0 h.refusal.1
+    exact status.Usage run h d = usage_exact h.refusal.0 h.refusal.1 h.refusal.2
     exact (status.TextRefused f place cause) run h d = of_refused f place cause h.line h.refusal
     exact other run h d = absurd d

@@ -22,7 +22,7 @@ use Rattle.run_texts.specs.declared.putting.Stop.{Stop}
 use Rattle.run_texts.specs.declared.putting.Stop.TheVariants as stop
 use Rattle.run_texts.specs.declared.record.RunRecord.{RunRecord}
 use Rattle.run_texts.proofs.TakenLemmas.{rose_after, rose_before, whole_part}
-use Rattle.task_inputs.specs.Inputs.{ground_over}
+use Rattle.task_inputs.specs.Inputs.{ground_over, IsValidPlan}
 use Rattle.task_inputs.specs.Reads.{Counts}
 use Rattle.task_inputs.proofs.Laws.{ready_texts}
 use Rattle.bd_top.specs.declared.purpose.Purpose.TheVariants as purpose
@@ -48,11 +48,15 @@ few_atoms : (d : Domain) (p : Problem) → ground_over d p ≡ None → length (
 few_atoms d p e = elim (cases_lt 262_144 (length (fact_atoms d p)))
     [ inl more ↦ absurd (first_false (nat_lt 262_144 (length (fact_atoms d p))) _ None (second _ _ _ e) (lt-ltb 262_144 (length (fact_atoms d p)) more)) | inr few ↦ few ]
 
+pub few_facts : (d p q : List ℕ) (task : TaskView) (list : List ℕ) → IsValidPlan d p q task list → length task.facts ≤ 262_144
+few_facts d p q task list v =
+    subst (λ (t : TaskView). length t.facts ≤ 262_144) (sym v.grounded) (subst (λ n. n ≤ 262_144) (sym (length-map (fact_atoms v.d v.p) _)) (few_atoms v.d v.p v.few_ground))
+
 module _ (words : List (List ℕ)) (tells : List ℕ → Told) (c : Counts) (task : TaskView) (plan : List ℕ) (h : NamesTexts words (λ names. LeadToTask names tells c task plan)) where
   pub facts_few : length task.facts ≤ 262_144
   facts_few =
       let r = ready_texts task plan h.holds.cost (tells h.names.domain) (tells h.names.problem) (tells h.names.plan) c h.holds.leads in
-      subst (λ (t : TaskView). length t.facts ≤ 262_144) (sym r.valid.grounded) (subst (λ n. n ≤ 262_144) (sym (length-map (fact_atoms r.valid.d r.valid.p) _)) (few_atoms r.valid.d r.valid.p r.valid.few_ground))
+      few_facts r.d r.p r.q task plan r.valid
 
   module _ (numbers : Numbers) (asked : purpose_asked words ≡ Some (purpose.Improve numbers)) (out notes : Taken) (silent : IsSilent notes) where
     improve_run : (run : RunRecord) → Improves task plan numbers run → IsImproveRun words tells run
@@ -60,11 +64,25 @@ module _ (words : List (List ℕ)) (tells : List ℕ → Told) (c : Counts) (tas
 
     pub ends_improved : (st : Status) (run : Option RunRecord) → TellsImproved task plan numbers out st run → Ends words tells c out notes st run
     ends_improved status.Done (Some run) t =
-        inr (inr (record { is_run = record { numbers = numbers; asked = asked; cost = h.holds.cost; checked = plan_checked words tells c task plan h; improves = t.0.0 }; over = t.0.1; printed = t.1; noted = silent }))
-    ends_improved status.WriteFault (Some run) t = inr (inr (record { is_run = improve_run run t.0; printed = t.1; noted = silent }))
-    ends_improved status.NoMemory (Some run) t = inr (inr (record { is_run = improve_run run t.0; printed = t.1; noted = silent }))
+        inr (inr (inl (record { is_run = record { numbers = numbers; asked = asked; cost = h.holds.cost; checked = plan_checked words tells c task plan h; improves = t.0.0 }; over = t.0.1; printed = t.1; noted = silent })))
+    ends_improved status.WriteFault (Some run) t = inr (inr (inl (record { is_run = improve_run run t.0; printed = t.1; noted = silent })))
+    ends_improved status.NoMemory (Some run) t = inr (inr (inl (record { is_run = improve_run run t.0; printed = t.1; noted = silent })))
     ends_improved status.NoMemory None t = (t, silent)
     ends_improved st run t = absurd t
+
+-- the pieces that are told of a run that ended
+module _ (numbers : Numbers) (core : CoreView) (pieces : List Piece) where
+  pub over_told : (e : End) → IsOver (setup_of numbers) core pieces (Some e) → IsOver (setup_of numbers) core (pieces_told (Some e) pieces) (Some e)
+  over_told end.Dry over = over
+  over_told end.Closed over = over
+  over_told end.Script over = absurd over
+  over_told end.Tight over = absurd over
+
+  pub ends_told : (e : End) → IsOver (setup_of numbers) core pieces (Some e) → EndsAs (setup_of numbers) core (pieces_told (Some e) pieces) (Some e)
+  ends_told end.Dry over = over
+  ends_told end.Closed over = (over, refl)
+  ends_told end.Script over = absurd over
+  ends_told end.Tight over = absurd over
 
 -- the better plans of turns, and then the summary
 module _ (task : TaskView) (list : List ℕ) (numbers : Numbers) (core : CoreView) (pieces : List Piece) (t0 t1 t2 : Option (List ℕ)) (f0 f1 f2 : ℕ) (improved : IsImproved task list numbers.stop core) (later : f0 ≤ f1) (later' : f1 ≤ f2) where
@@ -83,27 +101,15 @@ module _ (task : TaskView) (list : List ℕ) (numbers : Numbers) (core : CoreVie
   improves : (told : Option End) → EndsAs (setup_of numbers) core (pieces_told told pieces) told → Improves task list numbers (run_to told)
   improves told e = record { core = core; recorded = refl; improved = improved; ends = e }
 
-  over_told : (e : End) → IsOver (setup_of numbers) core pieces (Some e) → IsOver (setup_of numbers) core (pieces_told (Some e) pieces) (Some e)
-  over_told end.Dry over = over
-  over_told end.Closed over = over
-  over_told end.Script over = absurd over
-  over_told end.Tight over = absurd over
-
-  ends_told : (e : End) → IsOver (setup_of numbers) core pieces (Some e) → EndsAs (setup_of numbers) core (pieces_told (Some e) pieces) (Some e)
-  ends_told end.Dry over = over
-  ends_told end.Closed over = (over, refl)
-  ends_told end.Script over = absurd over
-  ends_told end.Tight over = absurd over
-
   ended : (told : Option End) (st : Status) → IsOver (setup_of numbers) core pieces told → t1 ≡ appended t0 (betters_of core) → Finishes (Ok tt) (run_to told) second_part st (Some (run_to told)) →
       TellsImproved task list numbers both st (Some (run_to told))
   ended None st over b f = absurd over
   ended (Some e) status.Done over b f =
-      ((record { core = core; recorded = refl; improved = improved; ends = ends_told e over }, over_told e over), f.1 ∙ ap (λ z. appended z (summary_of (run_to (Some e)))) b ∙ appended-append t0 (betters_of core) (summary_of (run_to (Some e))))
+      ((record { core = core; recorded = refl; improved = improved; ends = ends_told numbers core pieces e over }, over_told numbers core pieces e over), f.1 ∙ ap (λ z. appended z (summary_of (run_to (Some e)))) b ∙ appended-append t0 (betters_of core) (summary_of (run_to (Some e))))
   ended (Some e) status.WriteFault over b f =
-      (improves (Some e) (ends_told e over), record { failed = rose_before f0 f1 f2 later f.1.failed; part = TakesPart-after t0 t1 t2 (betters_of core) (summary_of (run_to (Some e))) b f.1.part })
+      (improves (Some e) (ends_told numbers core pieces e over), record { failed = rose_before f0 f1 f2 later f.1.failed; part = TakesPart-after t0 t1 t2 (betters_of core) (summary_of (run_to (Some e))) b f.1.part })
   ended (Some e) status.NoMemory over b f =
-      (improves (Some e) (ends_told e over), subst (λ z. TakesPart t0 z (printed_of (run_to (Some e)))) (sym f.1) (whole_part t0 t1 (betters_of core) (summary_of (run_to (Some e))) b))
+      (improves (Some e) (ends_told numbers core pieces e over), subst (λ z. TakesPart t0 z (printed_of (run_to (Some e)))) (sym f.1) (whole_part t0 t1 (betters_of core) (summary_of (run_to (Some e))) b))
   ended (Some e) st over b f = absurd f
 
   stopped : (why : Stop) (told : Option End) (st : Status) → told ≡ None → pieces ≡ [] → TellsBetter core first (Err why) → Finishes (Err why) (run_to told) second_part st (Some (run_to told)) →

@@ -11,4 +11,5 @@ pub mod ReplayLemmas
 pub mod EndLemmas
 pub mod DeorderLemmas
 pub mod ImproveLemmas
+pub mod BenchLemmas
 pub mod WordsLemmas

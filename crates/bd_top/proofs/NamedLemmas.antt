@@ -80,4 +80,5 @@ module _ (told : Told) (c : Counts) (v : Vec ℕ Global) (t : List ℕ) (same : 
   named name (prepared.Valid cost) h = absurd h
   named name (prepared.Plan task plan span) h = absurd h
   named name (prepared.Improvable task plan numbers) h = absurd h
+  named name (prepared.Errands task plan) h = absurd h
   named name prepared.NoMemory h = tt

@@ -32,6 +32,7 @@ named_unread name told c missing (prepared.Ready script) h un = absurd h
 named_unread name told c missing (prepared.Valid cost) h un = absurd h
 named_unread name told c missing (prepared.Plan task plan span) h un = absurd h
 named_unread name told c missing (prepared.Improvable task plan numbers) h un = absurd h
+named_unread name told c missing (prepared.Errands task plan) h un = absurd h
 
 module _ (aim : Purpose) (names : TextNames) (tells : List ℕ → Told) (c : Counts) where
   pub prepares : (result : Inputs) (p : Prepared) → Unless result (TextsLead names tells c result) → IsPreparedOf aim names result p → PreparesTexts aim names tells c p
@@ -110,11 +111,14 @@ module _ (words : List (List ℕ)) (tells : List ℕ → Told) (c : Counts) (out
 
   pub refused_ends : (why : Status) → IsRefusal words tells c why line → Ends words tells c out notes why None
   refused_ends status.Done (inl h) = absurd h.holds.holds
-  refused_ends status.Done (inr h) = absurd (tells_refusing h.names h.holds.result status.Done line h.holds.told)
+  refused_ends status.Done (inr (inl h)) = absurd (tells_refusing h.names h.holds.result status.Done line h.holds.told)
+  refused_ends status.Done (inr (inr h)) = absurd (tells_refusing h.holds.names h.holds.result status.Done line h.holds.told)
   refused_ends status.WriteFault (inl h) = absurd h.holds.holds
-  refused_ends status.WriteFault (inr h) = absurd (tells_refusing h.names h.holds.result status.WriteFault line h.holds.told)
+  refused_ends status.WriteFault (inr (inl h)) = absurd (tells_refusing h.names h.holds.result status.WriteFault line h.holds.told)
+  refused_ends status.WriteFault (inr (inr h)) = absurd (tells_refusing h.holds.names h.holds.result status.WriteFault line h.holds.told)
   refused_ends status.NoMemory (inl h) = absurd h.holds.holds
-  refused_ends status.NoMemory (inr h) = absurd (tells_refusing h.names h.holds.result status.NoMemory line h.holds.told)
+  refused_ends status.NoMemory (inr (inl h)) = absurd (tells_refusing h.names h.holds.result status.NoMemory line h.holds.told)
+  refused_ends status.NoMemory (inr (inr h)) = absurd (tells_refusing h.holds.names h.holds.result status.NoMemory line h.holds.told)
   refused_ends status.Usage h = ended status.Usage h
   refused_ends (status.PlanInvalid b) h = ended (status.PlanInvalid b) h
   refused_ends (status.TextRefused f place cause) h = ended (status.TextRefused f place cause) h

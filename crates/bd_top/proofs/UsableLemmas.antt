@@ -10,6 +10,7 @@ use Rattle.bd_top.specs.declared.status.Status.{Status}
 use Rattle.bd_top.specs.declared.status.Status.TheVariants as status
 use Rattle.task_inputs.specs.Reads.{Counts}
 use Rattle.bd_top.specs.Deorder.{IsDeorderRun}
+use Rattle.bd_top.specs.Bench.{IsBenchRun}
 use Rattle.bd_top.specs.Improve.{IsImproveRun}
 use Rattle.bd_top.specs.Replay.{Makes}
 use Rattle.bd_top.specs.Run.{Ends, IsRunOf, IsRecorded, IsUsable, AreTold}
@@ -48,19 +49,30 @@ of_improved words tells run h = subst IsUsable (sym h.improves.recorded) (record
   told = tt;
 })
 
+of_benched : (words : List (List ℕ)) (run : RunRecord) → IsBenchRun words run → IsUsable run
+of_benched words run h = subst IsUsable (sym h.improves.recorded) (record {
+  start = h.improves.improved.lawful.printable_at 0;
+  tree = h.improves.improved.lawful.printable;
+  trees = h.improves.improved.lawful.printable_at;
+  told = tt;
+})
+
 without : (run : Option RunRecord) → run ≡ None → IfSome run IsUsable
 without run none = subst (λ z. IfSome z IsUsable) (sym none) tt
 
 pub usable : (words : List (List ℕ)) (tells : List ℕ → Told) (c : Counts) (out notes : Taken) (why : Status) (run : Option RunRecord) → Ends words tells c out notes why run → IfSome run IsUsable
 usable words tells c out notes status.Done (Some run) (inl h) = of_recorded words tells run h.recorded
 usable words tells c out notes status.Done (Some run) (inr (inl h)) = of_deordered words tells run h.is_run
-usable words tells c out notes status.Done (Some run) (inr (inr h)) = of_improved words tells run h.is_run
+usable words tells c out notes status.Done (Some run) (inr (inr (inl h))) = of_improved words tells run h.is_run
+usable words tells c out notes status.Done (Some run) (inr (inr (inr h))) = of_benched words run h.is_run
 usable words tells c out notes status.WriteFault (Some run) (inl h) = of_recorded words tells run h.partly.recorded
 usable words tells c out notes status.WriteFault (Some run) (inr (inl h)) = of_deordered words tells run h.is_run
-usable words tells c out notes status.WriteFault (Some run) (inr (inr h)) = of_improved words tells run h.is_run
+usable words tells c out notes status.WriteFault (Some run) (inr (inr (inl h))) = of_improved words tells run h.is_run
+usable words tells c out notes status.WriteFault (Some run) (inr (inr (inr h))) = of_benched words run h.is_run
 usable words tells c out notes status.NoMemory (Some run) (inl h) = of_recorded words tells run h.recorded
 usable words tells c out notes status.NoMemory (Some run) (inr (inl h)) = of_deordered words tells run h.is_run
-usable words tells c out notes status.NoMemory (Some run) (inr (inr h)) = of_improved words tells run h.is_run
+usable words tells c out notes status.NoMemory (Some run) (inr (inr (inl h))) = of_improved words tells run h.is_run
+usable words tells c out notes status.NoMemory (Some run) (inr (inr (inr h))) = of_benched words run h.is_run
 usable words tells c out notes status.Done None h = tt
 usable words tells c out notes status.WriteFault None h = tt
 usable words tells c out notes status.NoMemory None h = tt

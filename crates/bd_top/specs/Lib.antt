@@ -1,3 +1,4 @@
+pub mod Bench
 pub mod Deorder
 pub mod Improve
 pub mod Plans

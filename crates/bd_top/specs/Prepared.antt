@@ -33,10 +33,11 @@ use Rattle.bd_top.specs.declared.status.File.TheVariants as file
 use Rattle.bd_top.specs.declared.status.Status.{Status}
 use Rattle.bd_top.specs.declared.status.Status.TheVariants as status
 use Rattle.bd_top.specs.Texts.{invalid_line, refused_line, over_line, unread_line}
-use Rattle.command_words.specs.Range.{AreNumbersInRange}
+use Rattle.command_words.specs.Range.{AreNumbersInRange, IsFrom1To}
 use Rattle.bd_top.specs.declared.purpose.Purpose.{Purpose}
 use Rattle.bd_top.specs.declared.purpose.Purpose.TheVariants as purpose
-use Rattle.bd_top.specs.Words.{purpose_asked, script_named, texts_named}
+use Rattle.bd_top.specs.Plans.{IsErrandsPlan, errands_outcome}
+use Rattle.bd_top.specs.Words.{errands_asked, purpose_asked, script_named, texts_named}
 use Rattle.command_words.specs.Asked.{Names as TextNames}
 
 -- the tree that a script starts from: its own, where it has one, else the chain of its plan
@@ -151,6 +152,13 @@ pub record NamesTexts (words : List (List ℕ)) (P : TextNames → Type 0) : Typ
   pub named : texts_named words ≡ Some names
   pub holds : P names
 
+-- the words ask for so many errands, from 1 to 600, of which P holds
+pub record AsksErrands (words : List (List ℕ)) (P : ℕ → Type 0) : Type 0 where
+  pub size : ℕ
+  pub asked : errands_asked words ≡ Some size
+  pub few : IsFrom1To 600 size
+  pub holds : P size
+
 -- what the texts that a shelf tells lead to
 abbrev pub TextsLead : TextNames → (List ℕ → Told) → Counts → Inputs → Type 0
 TextsLead names tells c result = LeadsTo (tells names.domain) (tells names.problem) (tells names.plan) c result
@@ -186,6 +194,13 @@ pub record IsTextsRefusal (names : TextNames) (tells : List ℕ → Told) (c : C
   pub leads : TextsLead names tells c result
   pub told : Tells names result why line
 
+-- the generated texts of so many errands lead to something that is told so
+pub record IsErrandsRefusal (size : ℕ) (why : Status) (line : List ℕ) : Type 0 where
+  pub result : Inputs
+  pub leads : errands_outcome size ≡ result
+  pub names : TextNames
+  pub told : Tells names result why line
+
 -- the words name texts that lead to a ready plan of this cost
 pub record LeadToPlan (names : TextNames) (tells : List ℕ → Told) (c : Counts) (cost : ℕ) : Type 0 where
   pub task : TaskView
@@ -199,8 +214,10 @@ pub record LeadToTask (names : TextNames) (tells : List ℕ → Told) (c : Count
 
 -- why a run is refused, and the line that says so
 abbrev pub IsRefusal : List (List ℕ) → (List ℕ → Told) → Counts → Status → List ℕ → Type 0
-IsRefusal words tells c status.Usage line = (script_named words ≡ None) × (texts_named words ≡ None) × (line ≡ USAGE.now)
-IsRefusal words tells c other line = Names words (λ name. IsNamedRefusal name (tells name) c other line) ⊎ NamesTexts words (λ names. IsTextsRefusal names tells c other line)
+IsRefusal words tells c status.Usage line = (script_named words ≡ None) × (texts_named words ≡ None) × (errands_asked words ≡ None) × (line ≡ USAGE.now)
+IsRefusal words tells c other line =
+    Names words (λ name. IsNamedRefusal name (tells name) c other line) ⊎ NamesTexts words (λ names. IsTextsRefusal names tells c other line)
+    ⊎ AsksErrands words (λ size. IsErrandsRefusal size other line)
 
 -- the words name a script that is ready to run
 abbrev pub IsReady : List (List ℕ) → (List ℕ → Told) → Script → Type 0
@@ -218,6 +235,7 @@ PreparesScript script (prepared.Refused other line) = ⊥
 PreparesScript script (prepared.Valid cost) = ⊥
 PreparesScript script (prepared.Plan task plan span) = ⊥
 PreparesScript script (prepared.Improvable task plan numbers) = ⊥
+PreparesScript script (prepared.Errands task plan) = ⊥
 PreparesScript script prepared.NoMemory = Unit {0}
 
 -- what is prepared is what there is; want of memory is free
@@ -227,6 +245,7 @@ PreparesText t (prepared.Refused why line) = IsTextRefusal t why line
 PreparesText t (prepared.Valid cost) = ⊥
 PreparesText t (prepared.Plan task plan span) = ⊥
 PreparesText t (prepared.Improvable task plan numbers) = ⊥
+PreparesText t (prepared.Errands task plan) = ⊥
 PreparesText t prepared.NoMemory = Unit {0}
 
 abbrev pub PreparesNamed : List ℕ → Told → Counts → Prepared → Type 0
@@ -235,6 +254,7 @@ PreparesNamed name told c (prepared.Refused why line) = IsNamedRefusal name told
 PreparesNamed name told c (prepared.Valid cost) = ⊥
 PreparesNamed name told c (prepared.Plan task plan span) = ⊥
 PreparesNamed name told c (prepared.Improvable task plan numbers) = ⊥
+PreparesNamed name told c (prepared.Errands task plan) = ⊥
 PreparesNamed name told c prepared.NoMemory = Unit {0}
 
 -- what is prepared of three texts, whose plan is there for a purpose
@@ -243,6 +263,7 @@ PreparesTexts aim names tells c (prepared.Ready script) = ⊥
 PreparesTexts aim names tells c (prepared.Valid cost) = (aim ≡ purpose.Check) × LeadToPlan names tells c cost
 PreparesTexts aim names tells c (prepared.Plan task plan span) = (aim ≡ purpose.Deorder span) × LeadToTask names tells c task plan
 PreparesTexts aim names tells c (prepared.Improvable task plan numbers) = (aim ≡ purpose.Improve numbers) × LeadToTask names tells c task plan
+PreparesTexts aim names tells c (prepared.Errands task plan) = ⊥
 PreparesTexts aim names tells c (prepared.Refused why line) = IsTextsRefusal names tells c why line
 PreparesTexts aim names tells c prepared.NoMemory = Unit {0}
 
@@ -254,6 +275,13 @@ IsPreparedOf aim names (inputs.Ready task plan cost) (prepared.Improvable t list
 IsPreparedOf aim names result (prepared.Refused why line) = Tells names result why line
 IsPreparedOf aim names result prepared.NoMemory = Unit {0}
 IsPreparedOf aim names result other = ⊥
+
+-- what is prepared of the generated texts of so many errands
+abbrev pub PreparesErrands : ℕ → Prepared → Type 0
+PreparesErrands size (prepared.Errands task plan) = IsErrandsPlan size task plan
+PreparesErrands size (prepared.Refused why line) = IsErrandsRefusal size why line
+PreparesErrands size prepared.NoMemory = Unit {0}
+PreparesErrands size other = ⊥
 
 -- the refusal of a text that couldn't be read
 abbrev pub IsReadFault : List ℕ → Bool → Prepared → Type 0
@@ -273,5 +301,6 @@ Prepares words tells c (prepared.Valid cost) = (purpose_asked words ≡ Some pur
 Prepares words tells c (prepared.Plan task plan span) = (purpose_asked words ≡ Some (purpose.Deorder span)) × NamesTexts words (λ names. LeadToTask names tells c task plan)
 Prepares words tells c (prepared.Improvable task plan numbers) =
     (purpose_asked words ≡ Some (purpose.Improve numbers)) × NamesTexts words (λ names. LeadToTask names tells c task plan) × AreNumbersInRange numbers
+Prepares words tells c (prepared.Errands task plan) = AsksErrands words (λ size. IsErrandsPlan size task plan)
 Prepares words tells c (prepared.Refused why line) = IsRefusal words tells c why line
 Prepares words tells c prepared.NoMemory = Unit {0}

@@ -27,6 +27,7 @@ use Rattle.task_inputs.specs.Reads.{Counts}
 use Rattle.task_inputs.specs.declared.answers.Part.{Part}
 use Rattle.task_inputs.specs.declared.answers.Inputs.TheVariants as inputs
 use Rattle.task_inputs.specs.Inputs.{outcome, IsValidPlan}
+use Rattle.bd_top.specs.Bench.{IsBenchDone, IsBenchCut, IsBenchUntold}
 use Rattle.bd_top.specs.Deorder.{IsTreeTold, IsTreeCut, IsTreeUntold}
 use Rattle.bd_top.specs.Improve.{IsImproveDone, IsImproveCut, IsImprovePart}
 use Rattle.bd_top.specs.declared.purpose.Purpose.TheVariants as purpose
@@ -36,7 +37,9 @@ use Rattle.bd_top.specs.Replay.{Makes, IsTold}
 use Rattle.run_texts.specs.Taken.{Taken, IsSilent, Receives, ReceivesPart, HasFailed, IsCut}
 use Rattle.run_texts.specs.Texts.{summary_of, printed_of, noted_of}
 use Rattle.bd_top.specs.Texts.{valid_line}
-use Rattle.bd_top.specs.Words.{purpose_asked, script_named, texts_named}
+use Rattle.bd_gen.specs.Errands.{plan_of, problem_of}
+use Rattle.bd_gen.specs.declared.sample.TheConstants.{DOMAIN}
+use Rattle.bd_top.specs.Words.{errands_asked, purpose_asked, script_named, texts_named}
 use Rattle.command_words.specs.Asked.{Names as TextNames}
 
 -- a run ends with its script where every offer was made
@@ -108,20 +111,22 @@ pub record IsCheckCut (words : List (List ℕ)) (tells : List ℕ → Told) (out
   pub printed : IsCut out (valid_line cost)
   pub noted : IsSilent notes
 
--- all was done: a script was run, or a plan was checked, deordered or improved
+-- all was done: a script was run, or a plan was checked, deordered or improved, that of generated errands too
 abbrev pub IsAllDone : List (List ℕ) → (List ℕ → Told) → Taken → Taken → Option RunRecord → Type 0
 IsAllDone words tells out notes None = IsChecked words tells out notes
-IsAllDone words tells out notes (Some run) = IsDone words tells out notes run ⊎ IsTreeTold words tells out notes run ⊎ IsImproveDone words tells out notes run
+IsAllDone words tells out notes (Some run) = IsDone words tells out notes run ⊎ IsTreeTold words tells out notes run ⊎ IsImproveDone words tells out notes run ⊎ IsBenchDone words out notes run
 
--- a write failed: within a run, within the cost of a plan, or within the text of a tree
+-- a write failed: within a run, within the cost of a plan, within the text of a tree, or within a summary
 abbrev pub HasWriteFault : List (List ℕ) → (List ℕ → Told) → Taken → Taken → Option RunRecord → Type 0
 HasWriteFault words tells out notes None = IsCheckCut words tells out notes
-HasWriteFault words tells out notes (Some run) = IsWriteFault words tells out notes run ⊎ IsTreeCut words tells out notes run ⊎ IsImproveCut words tells out notes run
+HasWriteFault words tells out notes (Some run) =
+    IsWriteFault words tells out notes run ⊎ IsTreeCut words tells out notes run ⊎ IsImproveCut words tells out notes run ⊎ IsBenchCut words out notes run
 
 -- memory was wanting: the run was kept, or nothing was put
 abbrev pub IsOutOfMemory : List (List ℕ) → (List ℕ → Told) → Taken → Taken → Option RunRecord → Type 0
 IsOutOfMemory words tells out notes None = IsSilent out × IsSilent notes
-IsOutOfMemory words tells out notes (Some run) = IsPartly words tells out notes run ⊎ IsTreeUntold words tells out notes run ⊎ IsImprovePart words tells out notes run
+IsOutOfMemory words tells out notes (Some run) =
+    IsPartly words tells out notes run ⊎ IsTreeUntold words tells out notes run ⊎ IsImprovePart words tells out notes run ⊎ IsBenchUntold words out notes run
 
 -- the words and the texts lead to a refusal: nothing was put to `out`, its line to `notes`, or a first part of it where that failed, and there is no run
 pub record IsRefused (words : List (List ℕ)) (tells : List ℕ → Told) (c : Counts) (out notes : Taken) (why : Status) (run : Option RunRecord) : Type 0 where
@@ -260,18 +265,26 @@ pub record IsExactRun (words : List (List ℕ)) (tells : List ℕ → Told) (why
   pub refused : (t : List ℕ) → IsNamedText words tells t → (file : File) (place : ℕ) (cause : Cause) →
       (why ≡ status.TextRefused file place cause) ↔ IsRefusedText t (status.TextRefused file place cause)
 
--- Of three texts that are told: done comes where they give a valid plan, and each refusal where it is the first.
-pub record IsExactCheck (words : List (List ℕ)) (tells : List ℕ → Told) (why : Status) : Type 0 where
-  pub done : (d p q : List ℕ) → AreNamedTexts words tells d p q → (why ≡ status.Done) ↔ HasValidPlan d p q
-  pub invalid : (d p q : List ℕ) → AreNamedTexts words tells d p q → (b : Broken) → (why ≡ status.PlanInvalid b) ↔ BreaksFirst d p q b
-  pub refused : (d p q : List ℕ) → AreNamedTexts words tells d p q → (file : File) (place : ℕ) (cause : Cause) →
-      (why ≡ status.TextRefused file place cause) ↔ IsFirstFault d p q file place cause
+-- Of three texts: done comes where they give a valid plan, and each refusal where it is the first.
+pub record IsExactFor (domain problem plan : List ℕ) (why : Status) : Type 0 where
+  pub done : (why ≡ status.Done) ↔ HasValidPlan domain problem plan
+  pub invalid : (b : Broken) → (why ≡ status.PlanInvalid b) ↔ BreaksFirst domain problem plan b
+  pub refused : (file : File) (place : ℕ) (cause : Cause) → (why ≡ status.TextRefused file place cause) ↔ IsFirstFault domain problem plan file place cause
 
--- each status that the words and the texts decide comes exactly where its cause stands; usage where the words name no texts
+-- of the texts that the words name, as they are told
+abbrev pub IsExactCheck : List (List ℕ) → (List ℕ → Told) → Status → Type 0
+IsExactCheck words tells why = (domain problem plan : List ℕ) → AreNamedTexts words tells domain problem plan → IsExactFor domain problem plan why
+
+-- of the generated texts of as many errands as the words ask for
+abbrev pub IsExactBench : List (List ℕ) → Status → Type 0
+IsExactBench words why = (size : ℕ) → errands_asked words ≡ Some size → IsExactFor DOMAIN.now (problem_of size) (plan_of size) why
+
+-- each status that the words and the texts decide comes exactly where its cause stands; usage where the words name no texts and ask for no errands
 pub record IsExact (words : List (List ℕ)) (tells : List ℕ → Told) (why : Status) : Type 0 where
-  pub usage : (why ≡ status.Usage) ↔ ((script_named words ≡ None) × (texts_named words ≡ None))
+  pub usage : (why ≡ status.Usage) ↔ ((script_named words ≡ None) × (texts_named words ≡ None) × (errands_asked words ≡ None))
   pub run : IsExactRun words tells why
   pub check : IsExactCheck words tells why
+  pub bench : IsExactBench words why
 
 -- a fact that one of the replies tells is one of so many
 abbrev pub AreTold : ℕ → List (Result ℕ Refusal) → Type 0

@@ -1,6 +1,6 @@
--- What the program's words ask of it. `bench` is read, and not done yet.
+-- What the program's words ask of it.
 use Rattle.std.specs.Prelude.{ℕ, List, Option, Some, None, option_map}
-use Rattle.command_words.specs.Asked.{Names, check_asked, deorder_asked, improve_asked, replay_asked}
+use Rattle.command_words.specs.Asked.{Names, bench_asked, check_asked, deorder_asked, improve_asked, replay_asked}
 use Rattle.command_words.specs.declared.request.Numbers.{Numbers}
 use Rattle.bd_top.specs.declared.purpose.Purpose.{Purpose}
 use Rattle.bd_top.specs.declared.purpose.Purpose.TheVariants as purpose
@@ -27,3 +27,7 @@ purpose_asked words = option_map (λ asked. asked.1) (texts_asked words)
 -- `replay`: the name of the script
 unfoldable pub script_named : List (List ℕ) → Option (List ℕ)
 script_named words = replay_asked words
+
+-- `bench`: how many errands are generated
+unfoldable pub errands_asked : List (List ℕ) → Option ℕ
+errands_asked words = bench_asked words

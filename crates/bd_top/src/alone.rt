@@ -5,9 +5,13 @@ ghost use Rattle.plan_core.specs.Core.{opening};
 ghost use Rattle.plan_core.specs.Law.{IsLawful, IsPrintable, MayBegin};
 ghost use Rattle.plan_core.specs.Replies.{IsLent};
 ghost use Rattle.script_text.specs.declared.script.Script.{Script};
+ghost use Rattle.bd_gen.specs.Errands.{plan_of, problem_of};
+ghost use Rattle.bd_gen.specs.declared.sample.TheConstants.{DOMAIN};
 ghost use Rattle.bd_top.specs.Prepared.{IsRunnable};
-ghost use Rattle.bd_top.specs.Run.{Checks, Ends, Finishes, IsDecided, IsDoneOrNoMemory, IsExact, IsFaultless, IsGood, IsGoodPlan, IsUsable, Replays, opening_of, record_of, status_by, status_of};
+ghost use Rattle.bd_top.specs.Run.{Checks, Ends, Finishes, HasValidPlan, IsDecided, IsDoneOrNoMemory, IsExact, IsFaultless, IsGood, IsGoodPlan, IsUsable, Replays, opening_of, record_of, status_by, status_of};
+ghost use Rattle.bd_top.specs.Words.{errands_asked};
 
+use crate::bench::put_summary;
 use crate::deorder::put_loosened;
 use crate::improve::put_improved;
 use crate::prepare::{Prepared, prepare_words};
@@ -232,6 +236,7 @@ fn run_words<H: Shelf, S: Sink, E: Sink>(
             plan,
             numbers,
         } => put_improved(alloc, task, plan, &numbers, out),
+        Prepared::Errands { task, plan } => put_summary(alloc, task, plan, out),
         Prepared::Refused { status, line } => {
             let _ = notes.put(line.as_slice());
             Ended { status, run: None }
@@ -265,6 +270,8 @@ pub fn run_alone<H: Shelf, S: Sink, E: Sink>(
     ensures usable { IfSome result.run (λ run. IsUsable run) }
     // A valid plan is told so, or its tree, or it is improved, where nothing outside fails.
     ensures checked { (domain problem plan : List ℕ) → IsGoodPlan (map string_bytes words.now) (H.tells shelf.old) domain problem plan → IsFaultless (H.faults shelf.old) (H.faults shelf.new) → IsFaultless (S.faults out.old) (S.faults out.new) → IsFaultless (E.faults notes.old) (E.faults notes.new) → IsDoneOrNoMemory result.status }
+    // A valid plan of generated errands is improved, where nothing outside fails.
+    ensures benched { (size : ℕ) → errands_asked (map string_bytes words.now) ≡ Some size → HasValidPlan DOMAIN.now (problem_of size) (plan_of size) → IsFaultless (S.faults out.old) (S.faults out.new) → IsFaultless (E.faults notes.old) (E.faults notes.new) → IsDoneOrNoMemory result.status }
     // A good script is run, where nothing outside fails.
     ensures complete { (script : Script) → IsGood (map string_bytes words.now) (H.tells shelf.old) script → IsFaultless (H.faults shelf.old) (H.faults shelf.new) → IsFaultless (S.faults out.old) (S.faults out.new) → IsFaultless (E.faults notes.old) (E.faults notes.new) → IsDoneOrNoMemory result.status }
 {

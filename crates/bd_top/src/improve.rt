@@ -17,7 +17,8 @@ use plan_improve::{Improvement, improve};
 use run_texts::RunRecord;
 use std::alloc::Global;
 
-fn setup_of(numbers: &Numbers) -> Setup
+/// What turns go by.
+pub(crate) fn setup_of(numbers: &Numbers) -> Setup
     ensures { result ≡ setup_of numbers.now }
 {
     Setup {
@@ -28,8 +29,8 @@ fn setup_of(numbers: &Numbers) -> Setup
     }
 }
 
-// The pieces of the last round, where the run ended dry; else none are told.
-fn pieces_told(alloc: Global, pieces: Vec<Piece>, end: &Option<End>) -> Vec<Piece>
+/// The pieces of the last round, where the run ended dry; else none are told.
+pub(crate) fn pieces_told(alloc: Global, pieces: Vec<Piece>, end: &Option<End>) -> Vec<Piece>
     ensures { result.items ≡ pieces_told end.now pieces.items }
 {
     match end {
@@ -38,8 +39,13 @@ fn pieces_told(alloc: Global, pieces: Vec<Piece>, end: &Option<End>) -> Vec<Piec
     }
 }
 
-// The record of a core that turns led to.
-fn improved_record(alloc: Global, core: Core, pieces: Vec<Piece>, end: Option<End>) -> RunRecord
+/// The record of a core that turns led to.
+pub(crate) fn improved_record(
+    alloc: Global,
+    core: Core,
+    pieces: Vec<Piece>,
+    end: Option<End>,
+) -> RunRecord
     ensures recorded { result ≡ improved_record core pieces.items end }
     ensures start { IsPrintable result.task result.start }
     ensures tree { IsPrintable result.task result.tree }

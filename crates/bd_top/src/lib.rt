@@ -3,10 +3,11 @@
 //! It may know every crate below it. It promises what `run_alone` carries: which words and texts lead to
 //! which status, which bytes are put, that the plan of every run is valid in each of its linearisations, that
 //! the cost of a plan is put exactly where the plan is valid, that a plan is deordered to a tree that is tight, and that a plan is
-//! improved until nothing is left to loosen and no window has anything cheaper.
+//! improved until nothing is left to loosen and no window has anything cheaper. Generated errands are improved the same way.
 #![tactic(auto)]
 
 mod alone;
+mod bench;
 mod deorder;
 mod improve;
 mod notes;

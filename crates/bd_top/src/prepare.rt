@@ -9,7 +9,7 @@ ghost use Rattle.bd_top.specs.declared.prepare.Prepared.TheVariants.{Refused as 
 use crate::notes::{broken_note, over_note, refused_note, unread_note};
 use crate::purpose::Purpose;
 use crate::status::{File, Status};
-use crate::texts::prepare_texts;
+use crate::texts::{prepare_errands, prepare_texts};
 use crate::usage::usage_note;
 use bd_base::{ActList, Cause, Limit, NoMemory, Shelf, ShelfErr, Text, TextErr};
 use bd_links::check;
@@ -42,6 +42,11 @@ pub enum Prepared {
         task: Task,
         plan: ActList,
         numbers: Numbers,
+    },
+    /// The valid plan of generated errands, with its task.
+    Errands {
+        task: Task,
+        plan: ActList,
     },
     /// A refusal, and the line that names it.
     Refused {
@@ -215,8 +220,7 @@ pub fn prepare_words<H: Shelf>(alloc: Global, words: &[String], shelf: &mut H) -
         Ok(Some(Request::Improve { texts, numbers })) => {
             prepare_texts(alloc, &texts, Purpose::Improve { numbers }, shelf)
         }
-        // It is read, and not done yet.
-        Ok(Some(Request::Bench { .. })) => misused(alloc),
+        Ok(Some(Request::Bench { size })) => prepare_errands(alloc, size),
         Ok(None) => misused(alloc),
         Err(NoMemory) => Prepared::NoMemory,
     }

@@ -1,6 +1,6 @@
-ghost use Rattle.std.specs.Prelude.{◌≡◌, ℕ, List};
+ghost use Rattle.std.specs.Prelude.{◌≡◌, ◌≤◌, ℕ, List};
 ghost use Rattle.task_inputs.specs.Inputs.{IsInTask};
-ghost use Rattle.bd_top.specs.Prepared.{PreparesTexts, IsPreparedOf, file_by, name_by};
+ghost use Rattle.bd_top.specs.Prepared.{PreparesErrands, PreparesTexts, IsPreparedOf, file_by, name_by};
 
 use crate::notes::{broken_note, over_note, refused_note, unread_note};
 use crate::prepare::{Prepared, refused, unread};
@@ -8,6 +8,7 @@ use crate::purpose::Purpose;
 use crate::status::{File, Status};
 use bd_base::Shelf;
 use command_words::TextNames;
+use errand_inputs::generated_inputs;
 use std::alloc::Global;
 use task_inputs::{Inputs, Part, inputs};
 
@@ -79,4 +80,20 @@ pub fn prepare_texts<H: Shelf>(
 {
     let result = inputs(alloc, names.domain, names.problem, names.plan, shelf);
     told(alloc, names, purpose, result)
+}
+
+/// Generates and judges the texts of so many errands.
+pub(crate) fn prepare_errands(alloc: Global, size: u32) -> Prepared
+    requires { (1 ≤ size) × (size ≤ 600) }
+    ensures { PreparesErrands size result }
+{
+    let names = TextNames {
+        domain: "domain",
+        problem: "problem",
+        plan: "plan",
+    };
+    match generated_inputs(alloc, size) {
+        Inputs::Ready { task, plan, .. } => Prepared::Errands { task, plan },
+        other => told(alloc, &names, Purpose::Check, other),
+    }
 }

@@ -1,7 +1,10 @@
 use Rattle.std.proofs.Common.{refl}
-use Rattle.bd_top.proofs.DeorderLemmas.{ends_deordered, plan_known}
+use Rattle.bd_gen.specs.Errands.{plan_of, problem_of}
+use Rattle.bd_gen.specs.declared.sample.TheConstants.{DOMAIN}
+use Rattle.bd_top.proofs.BenchLemmas.{ends_benched}
+use Rattle.bd_top.proofs.DeorderLemmas.{ends_deordered, known_plan, plan_known}
 use Rattle.bd_top.proofs.EndLemmas.{ends}
-use Rattle.bd_top.proofs.ImproveLemmas.{ends_improved, facts_few}
+use Rattle.bd_top.proofs.ImproveLemmas.{ends_improved, facts_few, few_facts}
 use Rattle.bd_top.proofs.TextsLemmas.{ends_checked, noted, refused_ends}
 use Rattle.bd_top.proofs.alone.run_words.Goals as goal
 
@@ -34,3 +37,16 @@ put_improved-requires-clause-ranges g c = c.in-Improvable.ensures.prepared.2
 pub returns-in-Improvable-clause-ends : goal.returns-in-Improvable-clause-ends
 returns-in-Improvable-clause-ends g c =
     ends_improved _ _ _ c.in-Improvable.task c.in-Improvable.plan c.in-Improvable.ensures.prepared.1 c.in-Improvable.numbers c.in-Improvable.ensures.prepared.0 _ _ refl _ _ c.put_improved.ensures
+
+pub put_summary-requires-clause-known : goal.put_summary-requires-clause-known
+put_summary-requires-clause-known g c =
+    let h = c.in-Errands.ensures.prepared in
+    known_plan DOMAIN.now (problem_of h.size) (plan_of h.size) c.in-Errands.task c.in-Errands.plan h.holds
+
+pub put_summary-requires-clause-few : goal.put_summary-requires-clause-few
+put_summary-requires-clause-few g c =
+    let h = c.in-Errands.ensures.prepared in
+    few_facts DOMAIN.now (problem_of h.size) (plan_of h.size) c.in-Errands.task c.in-Errands.plan h.holds
+
+pub returns-in-Errands-clause-ends : goal.returns-in-Errands-clause-ends
+returns-in-Errands-clause-ends g c = ends_benched _ _ _ c.in-Errands.task c.in-Errands.plan c.in-Errands.ensures.prepared _ _ refl _ _ c.put_summary.ensures

@@ -1,7 +1,7 @@
 use Rattle.command_words.specs.Asked.{names_of}
 use Rattle.bd_top.proofs.CommandLemmas.{asked_bench, asked_check, asked_deorder, asked_improve, asked_nothing, asked_script}
 use Rattle.bd_top.specs.declared.purpose.Purpose.TheVariants as purpose
-use Rattle.bd_top.proofs.WordsLemmas.{asks_none, asks_this, misused_prepared, no_check, no_deorder, ranges_this, script_prepared, texts_prepared, these_numbers}
+use Rattle.bd_top.proofs.WordsLemmas.{asks_none, asks_this, errands_prepared, misused_prepared, no_check, no_deorder, ranges_this, script_prepared, texts_prepared, these_numbers}
 use Rattle.bd_top.proofs.prepare.prepare_words.Goals as goal
 
 pub returns-in-Ok-Some-Replay-clause-prepared : goal.returns-in-Ok-Some-Replay-clause-prepared
@@ -26,11 +26,15 @@ returns-in-Ok-Some-Improve-clause-prepared g c =
     (λ numbers e. these_numbers c.in-Ok-Some-Improve.numbers numbers (ranges_this _ _ _ c.in-Ok-Some-Improve.field-0-is c.in-Ok-Some-Improve.field-0-0-is c.in-Ok-Some-Improve.ensures.ranges) e)
     _ c.prepare_texts-in-Ok-Some-Improve.ensures.prepared
 
+pub prepare_errands-requires : goal.prepare_errands-requires
+prepare_errands-requires g c = ranges_this _ _ _ c.in-Ok-Some-Bench.field-0-is c.in-Ok-Some-Bench.field-0-0-is c.in-Ok-Some-Bench.ensures.ranges
+
 pub returns-in-Ok-Some-Bench-clause-prepared : goal.returns-in-Ok-Some-Bench-clause-prepared
 returns-in-Ok-Some-Bench-clause-prepared g c =
-    misused_prepared _ _ _
-    (asked_bench _ _ (asks_this _ _ _ _ c.in-Ok-Some-Bench.field-0-is c.in-Ok-Some-Bench.field-0-0-is c.in-Ok-Some-Bench.ensures.asked)) _ c.misused.ensures
+    errands_prepared _ _ _ c.in-Ok-Some-Bench.size
+    (asked_bench _ _ (asks_this _ _ _ _ c.in-Ok-Some-Bench.field-0-is c.in-Ok-Some-Bench.field-0-0-is c.in-Ok-Some-Bench.ensures.asked))
+    (ranges_this _ _ _ c.in-Ok-Some-Bench.field-0-is c.in-Ok-Some-Bench.field-0-0-is c.in-Ok-Some-Bench.ensures.ranges) _ c.prepare_errands.ensures
 
 pub returns-in-Ok-None-clause-prepared : goal.returns-in-Ok-None-clause-prepared
 returns-in-Ok-None-clause-prepared g c =
-    misused_prepared _ _ _ (asked_nothing _ (asks_none _ _ c.in-Ok-None.field-0-is c.in-Ok-None.ensures.asked)) _ c.misused-in-Ok-None.ensures
+    misused_prepared _ _ _ (asked_nothing _ (asks_none _ _ c.in-Ok-None.field-0-is c.in-Ok-None.ensures.asked)) _ c.misused.ensures
