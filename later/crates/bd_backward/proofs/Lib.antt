@@ -1,0 +1,3 @@
+pub mod AdderLemmas
+pub mod WalkLemmas
+pub mod ClosureLemmas

@@ -1,0 +1,3 @@
+pub mod Adders
+pub mod Closed
+pub mod Walked

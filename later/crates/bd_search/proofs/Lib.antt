@@ -1,0 +1,3 @@
+pub mod StepLemmas
+pub mod SearchLemmas
+pub mod SkipLemmas

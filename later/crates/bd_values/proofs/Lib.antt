@@ -1,0 +1,3 @@
+pub mod DearestLemmas
+pub mod KeptLemmas
+pub mod WantedLemmas

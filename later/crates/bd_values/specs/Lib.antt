@@ -1,0 +1,3 @@
+pub mod Dearest
+pub mod Kept
+pub mod Wanted

@@ -1,0 +1,5 @@
+mod Forms
+mod ListLemmas
+mod NameLemmas
+mod PlanLemmas
+mod DomainLemmas

@@ -1,0 +1,10 @@
+pub mod AddedLemmas
+pub mod CountLemmas
+pub mod FewerLemmas
+pub mod FoundLemmas
+pub mod GrowLemmas
+pub mod LongLemmas
+pub mod RowLemmas
+pub mod SumLemmas
+pub mod TellLemmas
+pub mod ThreatLemmas

@@ -1,0 +1,8 @@
+//! Scratch.
+#![tactic(auto)]
+
+/// Nothing.
+pub fn none() -> u32
+{
+    0
+}

@@ -1,0 +1,81 @@
+"""Builds README's table of promises from rows by crate; only crates in crates.txt are put in."""
+import re,sys
+rows = [
+('bd_base', 'a `FactSet` is the strictly rising list of its facts after every call', '`FactSet`'),
+('bd_base', '`PairList` and `Items` are the lists that they were made of; `total` is the total order, `is_total` and `is_closed` know one; `put_row` puts a row of pairs behind the others, `without` and `remove` leave a pair out, the second in place', '`PairList`, `Items`'),
+('bd_base', 'an `OwnedRow` is the rising list of its positions. Sets, pairs and rows are stored as words of 64 bits, which no clause sees', '`OwnedRow`'),
+('bd_base', 'a shelf or a sink answers an error only as its trait says; a text that a shelf tells is never missing; a sink that fails took a first part of the piece', '`Shelf::read`, `Sink::put`'),
+('bd_base', '`MemShelf` and `MemSink` fail at the calls of their lists alone (and where a piece does not fit), and count exactly that', '`MemShelf::read`, `MemSink::put`'),
+('bd_task', 'a `Task` has its facts in range, costs of at most 1,000,000,000, adds and deletes apart, and sets that rise', '`Task`'),
+('bd_task', '`step` is one step of the run of a list, `cost` the sum of the costs, `try_copy` the same task', '`Task::step`, `Task::cost`, `Task::try_copy`'),
+('bd_task', 'whether parts make a task', '`is_task`'),
+('seq_check', 'the cost is answered exactly where the list is valid, and else its first break', '`validate`, clause `answer`'),
+('seq_check', 'nothing breaks exactly where the list is valid, whatever is answered', '`validate`, clause `unbroken`'),
+('bd_tree', 'a `Tree` is well formed after every call: the root is block 0, ids are distinct, each order is in range, strictly rising and closed', '`Tree`'),
+('bd_tree', '`Tree::new` answers the tree of a well formed root of at most 64 levels, and else the first misfit', '`Tree::new`'),
+('bd_tree', 'an order has no misfit exactly where it is an order of so many kids', '`order_misfit`'),
+('bd_tree', 'the chain of a list; the listed linearisation is one; counts of steps and nodes, depth, ordered step pairs, greatest id; `find` answers nothing exactly where no node has the id', '`Tree`, `Node`'),
+('bd_tree', 'whether a list is a linearisation', '`Tree::is_linearisation`'),
+('bd_tree', 'whether no other kid is after one of the named kids and before another', '`is_convex`'),
+('bd_shape', 'a hull is the two kids and those between them, and just the two where none is', '`hull`'),
+('bd_shape', 'the tree in which convex kids are one block, the one without a pair, and a block with some kids alone; the trees are well formed again, and every measure that adds up, as steps and cost, is as it was', '`group`, `unorder`, `restrict`'),
+('bd_links', 'what a node needs, gives and deletes', '`effects`'),
+('bd_links', '**each linearisation of a sound tree runs from the initial set to the goal**', '`check`, `linearisations_run`'),
+('bd_links', 'the link check answers nothing exactly where the tree is sound, and else the first fault', '`check`'),
+('bd_links', 'a tree has no first fault exactly where it is sound, by the definitions alone', '`faultless_where_sound`'),
+('bd_links', 'the chain of a list is sound exactly where the list is valid', '`chains_run`, `chains_fit`'),
+('bd_links', 'the cost of a node is the sum over its steps', '`node_cost`'),
+('bd_merge', 'whether a window stands, its block or a kid is gone, or its kids are split', '`stands`'),
+('bd_merge', 'the tree with the list\'s steps in the place of the kids, early or late, well formed again', '`merged`'),
+('plan_core', 'a core begins exactly where its start tree is sound, and else tells the first fault; whether a task and a tree may open one can be asked', '`Core::begin`, `may_begin`'),
+('plan_core', 'an offer is answered by the first refusal of its kind whose condition holds, else by its place; a refusal, want of memory among them, changes nothing', '`Core::offer`'),
+('plan_core', '**after any list of offers** the history is legal and replays from the start tree to the tree; at each place the tree there is sound, each linearisation of it is valid, it has at most 4,096 steps and 64 levels, its actions are the task\'s, its nodes are few and its ids below the next one; and the cost never rose', '`Core::tree`, `Core::at`, `Core::into_parts`, `offers_judged`'),
+('script_text', 'a script is answered exactly where the text spells it within the limits, the first count that passes exactly where it spells one beyond them, and else the first cause at its line with its word', '`read_script`'),
+('script_text', 'no text spells two scripts', '`one_script`'),
+('script_text', 'names are distinct, the plan and the offers are in range, and a start tree is well formed, lists the plan and may open a core', '`read_script`, clause `known`'),
+('pddl_lex', 'lists are answered exactly where the text spells them, at most 100 open at once, and else the first fault with its byte; no text spells two', '`read_tree`, `read_trees`, `one_reading`'),
+('pddl_types', 'whether what stands in a domain speaks of what it declares; a problem is let through only where that holds of it', '`is_domain`, `is_problem`'),
+('pddl_form', 'typed lists and the things that they name are told exactly where they are spelled', '`things_at`'),
+('pddl_domain', 'a domain is answered within its limit, the limit where it is passed, or the first fault with its place, cause and word, each as a function of the lists that is defined apart from the code', '`read_domain`, clause `first`'),
+('pddl_domain', 'of a domain that was read, heads, objects and parameters are in range, arities fit, types are in range, and each name is a word and declared once', '`read_domain`, clause `read`'),
+('pddl_problem', 'the same of a problem', '`read_problem`, clauses `first` and `read`'),
+('plan_text', 'the calls of a plan, the first fault or the limit, likewise', '`read_plan`'),
+('plan_text', 'exactly one line is put for each action, and after a put that fails a first part of them', '`print_plan`'),
+('bd_ground', 'the ground task is exactly the defined one, or the first limit that is passed, actions before facts, exactly where the count passes', '`ground`'),
+('bd_ground', '**a list of the task\'s actions is valid exactly where its calls run, by the schemas alone, from the init list to the goal**, for every domain and problem, with no premise', '`calls_run`'),
+('plan_calls', 'the first action of a task with a call\'s name and arguments', '`find`, `calls_of`'),
+('plan_calls', 'whether a call is an action, an instance that lacks its cost, or no instance; it is found in the ground task exactly where it is judged an action', '`judge_call`, `calls_agree`'),
+('plan_calls', 'the actions of a ground task have names that differ, so that each instance stands once', '`actions_differ`'),
+('task_inputs', '**three texts are ready exactly where they give a domain, a problem and a plan within all limits, each call is an action, and the plan is valid: its calls run by the schemas from the init list to the goal**; else the first fault, limit or break is told, each text read and judged before the next one is read', '`inputs`, `valid_plans`'),
+('bd_reason', 'the reasons of two kids of a block: what the first gives and the second needs, what the first needs and the second deletes, what the first deletes and the second gives, each by rising fact', '`reasons`, `reasons_by_place`'),
+('bd_deorder', 'exactly where the list is valid, a flat sound tree whose listed linearisation is the list, and in which each pair with nothing between has a reason; else the first break', '`deorder`'),
+('bd_tight', 'nothing is answered exactly where no candidate of the tree at the span qualifies, and else a candidate whose tree is sound, has at most 64 levels and fewer ordered step pairs', '`next_gain`'),
+('bd_tight', 'in a sound tight tree each pair with nothing between whose kids have steps has a reason', '`orderings_have_reasons`'),
+('bd_tight', 'a tree is sound exactly where it is sound for each fact alone; which orderings may go, fact by fact, in any block; grouping keeps a tree sound', '`facts_apart`, `pairs_judged`, `reasonless_go`, `groups_keep`'),
+('bd_window', 'the family of windows at a width is exactly the stated list, and each of them stands in the tree', '`family`, `family_stands`'),
+('bd_window', 'the same windows in the same order are given one at a time', '`FamilyWalk::of`, `FamilyWalk::next`'),
+('bd_subtask', 'the subtask of a standing window is exactly the stated one', '`subtask`, `Posing::subtask`'),
+('bd_subtask', '**in a sound tree each list that solves a window\'s subtask merges to a sound tree, at every block, and the window\'s own content solves it at the cost of the bound**', '`solutions_merge`, `content_solves`'),
+('bd_subtask', 'the compiled subtask is the stated task, and a list is valid for it exactly where it solves the subtask, at the same cost', '`compile`, `compiled_tells`'),
+('bd_heur', '`h_max` and `h_add` are the defined values, a number exactly where the goal can be reached with deletes ignored; `h_max` is at most the cost of every list that reaches the goal', '`h_max`, `h_add`'),
+('bd_heur', 'the facts that are preconditions decide what runs and what every fact costs', '`the_core_decides`, `values_are_columns`'),
+('bd_values', 'values that are kept by core state are the defined ones, whatever is kept, and after want of memory too', '`CoreStates::goal_value`'),
+('bd_states', 'the way back from a closed state is a list that reaches it and passes no state twice', '`way_to`'),
+('bd_search', '**every verdict is true, over all lists of actions**: Found is a cheapest valid list below the bound, Exhausted means that none is below the bound, Spent that none is below its floor and that as many states as the budget has are reached at a cost of at most the floor', '`search`'),
+('bd_cut', 'a true verdict on a task cut down to its relevant facts is one on the whole task; what is known of a task answers other bounds and budgets', '`cutting_keeps_verdicts`, `Known::answer`'),
+('bd_greedy', 'a list that is proposed is valid; none is proposed only where no list is valid or at least 10,000 states that differ are reached', '`propose`'),
+('bd_top', 'the clauses above; each text byte for byte; the status numbers (the usage text is the constant `USAGE`, whose bytes the transcript shows)', '`run_alone`, `better_text`, `reply_text`, `summary_text`, `Status::number`'),
+('transcripts', 'its few hundred lines are safe and end; they have no clause', '`main`'),
+('bdpo', 'its few lines are safe and end; they have no clause', '`main`'),
+]
+top=sys.argv[1]
+listed=[l.split(':')[0].split()[0] for l in open(top+'/crates.txt') if ':' in l and not l.startswith('#')]
+out=['| Crate | What is proved | Where |','|---|---|---|']
+for c,w,h in rows:
+    if c in listed: out.append(f'| {c} | {w} | {h} |')
+missing=[c for c in listed if c not in {r[0] for r in rows}]
+print('missing rows:',missing,file=sys.stderr)
+p=top+'/README.md'; s=open(p).read()
+a=s.index('| Crate | What is proved | Where |'); b=s.index('\n\n',a)
+s=s[:a]+'\n'.join(out)+s[b:]
+open(p,'w').write(s)
