@@ -1,3 +1,0 @@
-pub mod AdderLemmas
-pub mod WalkLemmas
-pub mod ClosureLemmas

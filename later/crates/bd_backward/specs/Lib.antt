@@ -1,3 +1,0 @@
-pub mod Adders
-pub mod Closed
-pub mod Walked

@@ -1,2 +1,0 @@
-pub mod HuntLemmas
-pub mod ProposalLemmas

@@ -1,2 +1,0 @@
-pub mod Proposal
-pub mod Hunt

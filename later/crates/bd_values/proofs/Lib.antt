@@ -1,3 +1,0 @@
-pub mod DearestLemmas
-pub mod KeptLemmas
-pub mod WantedLemmas

@@ -1,3 +1,0 @@
-pub mod Dearest
-pub mod Kept
-pub mod Wanted

@@ -1,5 +1,0 @@
-mod Forms
-mod ListLemmas
-mod NameLemmas
-mod PlanLemmas
-mod DomainLemmas

@@ -1,8 +1,0 @@
-//! Scratch.
-#![tactic(auto)]
-
-/// Nothing.
-pub fn none() -> u32
-{
-    0
-}
